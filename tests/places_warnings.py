@@ -205,6 +205,7 @@ tick 1 at 400
 node 1 IDLE RUNNING
 call 10 start RUNNING
 root 1 RUNNING
+tell 1 10 FAILURE at 440
 set at 3 at 450
 fact at 3
 board 1 0 way 24
@@ -218,6 +219,7 @@ tick 1 at 400
 node 1 IDLE RUNNING\ttop (Sequence)
 call 10 start RUNNING\tGrip at 400, in Dock (8), in DriveTo (3)
 root 1 RUNNING
+tell 1 10 FAILURE at 440\tGrip, in Dock (8), in DriveTo (3)
 set at 3 at 450
 fact at 3
 board 1 0 way 24

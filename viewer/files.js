@@ -17,7 +17,7 @@ function showStart(page) {
 /** Which file of a run this text is. */
 function sortOf(text) {
   if (/^bt-world /.test(text)) return "world";
-  if (/^(tick|halt|set|finish) /.test(text)) return "trace";
+  if (/^(tick|halt|set|tell|finish) /.test(text)) return "trace";
   if (/^<!-- (expand|reached|no plan) /.test(text)) return "plan";
   return /^refused /.test(text) ? "refusal" : "tree";
 }

@@ -3,8 +3,8 @@ import * as Words from "./words.js";
 
 const { IDLE } = Words;
 /** The kinds of lines of a trace. Those of headers come first. */
-const KINDS = ["tick", "halt", "set", "finish", "node", "start", "running", "halted", "root", "fault", "quench", "fact", "board"];
-const [TICK, HALT, SET, FINISH, NODE, START, RAN, HALTED, ROOT, FAULT, QUENCH, FACT, BOARD] = KINDS.keys();
+const KINDS = ["tick", "halt", "set", "tell", "finish", "node", "start", "running", "halted", "root", "fault", "quench", "fact", "board"];
+const [TICK, HALT, SET, TELL, FINISH, NODE, START, RAN, HALTED, ROOT, FAULT, QUENCH, FACT, BOARD] = KINDS.keys();
 const NO_LINES = [];
 
 /**
@@ -265,8 +265,9 @@ class Run {
     if (this.kind[line] === TICK) return `Tick${runner}`;
     if (this.kind[line] === HALT) return `Halt${runner}`;
     if (this.kind[line] === FINISH) return `Finish${runner}`;
+    if (this.kind[line] === TELL) return `Tell ${this.tree.node(this.uid[line]).name}${runner} ${Words.ANSWERS[this.answer[line]]}`;
     const [, fact, value] = this.lineText(line).split(" ");
     return `Set ${fact} to ${value}`;
   }
 }
-export { Run, Series, countBelow, isCall, TICK, HALT, SET, FINISH, NODE, START, RAN, HALTED, ROOT, FAULT, QUENCH, FACT, BOARD };
+export { Run, Series, countBelow, isCall, TICK, HALT, SET, TELL, FINISH, NODE, START, RAN, HALTED, ROOT, FAULT, QUENCH, FACT, BOARD };

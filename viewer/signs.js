@@ -18,6 +18,7 @@ const KINDS = {
   timed: "M14 8A6 6 0 1 1 2 8a6 6 0 0 1 12 0M8 4.5V8l2.5 1.5",
   replay: "M13 8.5A5 5 0 1 1 11.4 4.5M13 1.8v3.2H9.8",
   gate: "M3 14V3M13 14V3M3 5.5h10M3 9.5h10",
+  told: "M2 3h12v8H8l-3 3v-3H2zM5 6h6M5 8.3h4",
   leaf: "M3 3h10v10H3zM8 8v.01",
 };
 

@@ -7,8 +7,8 @@
 import * as Runs from "./run.js";
 import * as Words from "./words.js";
 
-const { STATUSES, ANSWERS, IDLE, RUNNING, SKIPPED } = Words;
-const { TICK, HALT, SET, FINISH, NODE, START, RAN, HALTED, ROOT, FAULT, QUENCH, FACT, BOARD } = Runs;
+const { STATUSES, ANSWERS, IDLE, RUNNING, SUCCESS, FAILURE, SKIPPED } = Words;
+const { TICK, HALT, SET, TELL, FINISH, NODE, START, RAN, HALTED, ROOT, FAULT, QUENCH, FACT, BOARD } = Runs;
 const MOST_RUNNERS = 16;
 
 
@@ -119,7 +119,8 @@ class Reader {
     this.run.keep(this.line, kind, runner, uid, old, answer);
   }
 
-  header(kind, runner, at) {
+  /** Keeps the header of an event. The lines of its block are of the runner `subject`, of none where that is 0. */
+  header(kind, runner, at, uid = 0, answer = 0, subject = runner) {
     const { run } = this;
     const moment = natural(at);
     if (Number.isNaN(moment)) this.refuse("The event has no moment.");
@@ -128,8 +129,8 @@ class Reader {
     if (this.finished > 0 && kind !== FINISH) this.refuse("An event follows, but the run was finished.");
     run.events.push(this.line);
     run.moments.push(moment);
-    this.subject = runner;
-    this.keep(kind, runner, 0, 0, 0);
+    this.subject = subject;
+    this.keep(kind, runner, uid, 0, answer);
   }
 
   readStep(kind, words) {
@@ -149,13 +150,23 @@ class Reader {
     this.header(SET, 0, words[4]);
   }
 
+  readTell(words) {
+    this.expectWords(words, 6);
+    if (words[4] !== "at") this.refuse('A line "tell" names its moment after "at".');
+    const uid = this.uidOf(words[2]);
+    if (this.run.tree.nodes[uid].family !== "leaf") this.refuse(`Node ${uid} is no leaf that can be told anything.`);
+    const answer = this.answerOf(words[3]);
+    if (answer !== SUCCESS && answer !== FAILURE) this.refuse("A leaf is told SUCCESS or FAILURE.");
+    this.header(TELL, this.runnerOf(words[1]), words[5], uid, answer, 0);
+  }
+
   readNode(words) {
     this.expectWords(words, 4);
     this.changeNode(this.uidOf(words[1]), this.statusOf(words[2]), this.statusOf(words[3]));
   }
 
   changeNode(uid, old, status) {
-    if (this.subject === 0) this.refuse("A change of a fact changes no node.");
+    if (this.subject === 0) this.refuse("A change of a fact, and a telling, change no node.");
     const place = this.run.place(this.subject, uid);
     const kept = this.statuses[place];
     if (kept !== old) this.refuse(`By the lines before it, node ${uid} is ${STATUSES[kept]} here, not ${STATUSES[old]}.`);
@@ -174,7 +185,7 @@ class Reader {
   }
 
   callLeaf(uid, kind, answer) {
-    if (this.subject === 0) this.refuse("A change of a fact calls no leaf.");
+    if (this.subject === 0) this.refuse("A change of a fact, and a telling, call no leaf.");
     if (this.run.tree.nodes[uid].family !== "leaf") this.refuse(`Node ${uid} is no leaf that can be called.`);
     const runs = this.statuses[this.run.place(this.subject, uid)] === RUNNING;
     if (kind === START && runs) this.refuse(`By the lines before it, leaf ${uid} is RUNNING and is not started here.`);
@@ -237,7 +248,7 @@ class Reader {
   }
 }
 
-const HEADERS = ["tick", "halt", "set", "finish"];
+const HEADERS = ["tick", "halt", "set", "tell", "finish"];
 const CALLS = new Map([["start", START], ["running", RAN], ["halted", HALTED]]);
 
 /** What may stand after the uid in the line of a node, and what it says. */
@@ -255,6 +266,7 @@ const READS = {
   halt(words) { this.readStep(HALT, words); },
   finish: Reader.prototype.readFinish,
   set: Reader.prototype.readSet,
+  tell: Reader.prototype.readTell,
   node: Reader.prototype.readNode,
   call: Reader.prototype.readCall,
   root: Reader.prototype.readRoot,

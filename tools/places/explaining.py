@@ -19,6 +19,7 @@ from .rules import Configuration, Rules, read_rules
 from .slots import check_sizes
 from .source import MISSING, MOST_BYTES, Source, beside, read, why_unreadable
 from .table import CAUSES, GROUND, RULES, TREE, WORLD
+from .tellings import untold
 from .traces import MOST_OUTPUT, Faulted, faulted
 from .trees import TreeFile, read_file
 from .words import Command, command_of, usage, wrong
@@ -109,8 +110,10 @@ def of_world(command: Command, words: str) -> List[str]:
         return []
     if kind == "NoDriver" or kind == "NoGoal" and not world.goals:
         return [f"{source.name}: error: {WORLD[kind].wrong} ({words}): {WORLD[kind].right}"]
-    run = run_of(command) if kind == "NoRow" else None
-    return [] if run is None else lacking(run.file, run.world, words) + rule_lines(run)
+    run = run_of(command) if kind in ("NoRow", "NoLeaf", "NoOutput") else None
+    if run is None:
+        return []
+    return (lacking if kind == "NoRow" else untold)(run.file, run.world, words) + rule_lines(run)
 
 
 def of_ground(command: Command, words: str) -> List[str]:

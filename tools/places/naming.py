@@ -9,7 +9,7 @@ from .listing import opening_said
 from .traces import HEADER
 from .trees import Node, TreeFile
 
-UID = re.compile(r"(?:node|call) ([0-9]+) .*|(?:fault|quench) [0-9]+ ([0-9]+)(?: .*)?|board [0-9]+ ([0-9]+) .*")
+UID = re.compile(r"(?:node|call) ([0-9]+) .*|(?:fault|quench|tell) [0-9]+ ([0-9]+)(?: .*)?|board [0-9]+ ([0-9]+) .*")
 
 
 # no line that the program prints has so many bytes

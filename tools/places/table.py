@@ -62,6 +62,8 @@ WORLD: Dict[str, Kind] = {
     "TooMany": Kind("the line passes a limit", "the limits are in docs/formats.md"),
     "NoRow": Kind("a leaf has no row in the world script", "write a row for it"),
     "NoDriver": Kind("no driver serves the row of a leaf", "the program was made without a driver of this kind"),
+    "NoLeaf": Kind("a telling names no leaf whose row is told", "its number is that of a leaf, as `bt check` and traces have it"),
+    "NoOutput": Kind("a telling has an output that the row of its leaf has not", "write `out PORT` below the row"),
     "NoGoal": Kind("the world script has no goal", "write `goal ID` for a condition with `is`"),
 }
 

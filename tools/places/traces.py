@@ -4,7 +4,7 @@ import re
 from dataclasses import dataclass, field
 from typing import List, Optional, Tuple
 
-HEADER = re.compile(r"(?:(?:tick|halt|finish) ([0-9]+)|set [A-Za-z0-9_]+ -?[0-9]+) at ([0-9]+)")
+HEADER = re.compile(r"(?:(?:tick|halt|finish) ([0-9]+)|set [A-Za-z0-9_]+ -?[0-9]+|tell [0-9]+ [0-9]+ [A-Z]+) at ([0-9]+)")
 
 FAULT = re.compile(r"fault ([0-9]+) ([0-9]+) (.+)")
 

@@ -21,19 +21,27 @@ MOST = {"facts": 1024, "rows": 1024, "goals": 64, "ports": 8, "needs": 16, "sets
 
 FORMS = {
     "fact": ["fact NAME INT"],
-    "condition": ["condition ID is FACT OP INT", "condition ROW when EXPR"],
-    "action": ["action ROW timed MS", "action ROW replay MS OUTCOMES", "action ROW gate EXPR"],
+    "condition": ["condition ID is FACT OP INT", "condition ROW when EXPR", "condition ROW told"],
+    "action": ["action ROW timed MS", "action ROW replay MS OUTCOMES", "action ROW gate EXPR", "action ROW told"],
     "fails": ["fails EXPR"],
     "needs": ["needs ID"],
     "sets": ["sets NAME = INT", "sets NAME += INT"],
-    "out": ["out PORT = EXPR"],
+    "out": ["out PORT = EXPR", "out PORT"],
     "goal": ["goal ID"],
     "runners": ["runners N"],
     "at": ["at MS"],
     "tick": ["tick R"],
     "halt": ["halt R"],
     "set": ["set NAME INT"],
+    "tell": ["tell R UID SUCCESS NAME=VALUE ..", "tell R UID FAILURE"],
 }
+
+LAST_UID = 2 ** 32 - 1
+
+MOST_TEXT_BYTES = 4096
+
+# a quoted text with its escapes
+QUOTED = re.compile(rb"'((?:[ -&(-\[\]-~]|\\['\\n]|\\x[0-9a-f]{2})*)'")
 
 TRUTHS = {"true": 1, "yes": 1, "on": 1, "false": 0, "no": 0, "off": 0}
 
@@ -140,9 +148,23 @@ class Row:
     outs: Dict[str, Word] = field(default_factory=dict)
     test: Optional[Test] = None
 
+    def is_told(self) -> bool:
+        """Whether its leaves are told what they answer."""
+        return self.sort == "told"
+
     def looks(self) -> List[str]:
         """The names at which its expressions look."""
         return [word.text for expr in self.exprs for word in expr.names()]
+
+
+@dataclass(frozen=True)
+class Telling:
+    """A line `tell`: the leaf, the names of the outputs, and where they stand."""
+
+    leaf: Word
+    runner: Word
+    uid: int
+    outs: List[Word]
 
 
 class Line:
@@ -244,6 +266,49 @@ class Line:
                 self.bad((start + token.start, start + token.end), "an expression of a world script has no texts, numbers only")
         return Expr(text.decode("latin-1"), start, read)
 
+    def outputs(self) -> List[Tuple[Word, Word]]:
+        """The rest of the line, outputs `NAME=VALUE` with white space between: each name with its value."""
+        found: List[Tuple[Word, Word]] = []
+        at = self.words[self.taken].start if self.taken < len(self.words) else self.end
+        while at < self.end:
+            name, value = self.output(at)
+            found.append((name, value))
+            rest = self.source.data[value.end:self.end]
+            if rest and rest[:1] not in (b" ", b"\t"):
+                self.bad((value.end, value.end + 1), "white space stands between the outputs of a telling")
+            at = self.end - len(rest.lstrip(b" \t"))
+        return found
+
+    def output(self, at: int) -> Tuple[Word, Word]:
+        """The output `NAME=VALUE` that begins at a place."""
+        text = self.source.data[at:self.end]
+        front = re.split(rb"[ \t=]", text, maxsplit=1)[0].decode("latin-1")
+        name = Word(front, at, at + len(front))
+        if not is_name(front):
+            self.bad((at, at + max(len(front), 1)), f"an output is told as NAME=VALUE, and {front or 'the ='} is no name")
+        if text[len(front):len(front) + 1] != b"=":
+            self.bad(name.span(), "an output is told as NAME=VALUE, with no white space round the =")
+        return name, self.value(name.end + 1)
+
+    def value(self, at: int) -> Word:
+        """The value that begins at a place: a number, or a quoted text."""
+        text = self.source.data[at:self.end]
+        if text[:1] != b"'":
+            word = re.split(rb"[ \t]", text, maxsplit=1)[0].decode("latin-1")
+            if not CANONICAL.fullmatch(word):
+                helps = number_helps(word) or [f"a text stands between quotes: '{word}'"] if word else []
+                said = f"a value is a number or a text between quotes, and {word or 'none'} is neither"
+                self.bad((at, at + max(len(word), 1)), said, helps)
+            return Word(word, at, at + len(word))
+        found = QUOTED.match(text)
+        if found is None:
+            self.bad((at, self.end), "the text does not end, or a byte of it is not escaped",
+                     ["in a text stand \\' for a quote, \\\\ for a backslash, \\n for a line feed, and \\x with two digits, as in \\x1f, "
+                      "for any byte"])
+        if not is_utf8(unescaped(found.group(1))):
+            self.bad((at, at + found.end()), "the bytes of the text are no UTF-8")
+        return Word(found.group().decode("latin-1"), at, at + found.end())
+
     def in_range(self, word: Word, least: int, most: int, what: str) -> int:
         """The number of a word, which lies between these."""
         value = number(word.text)
@@ -259,6 +324,24 @@ def number_helps(text: str) -> List[str]:
     if re.fullmatch(r"[-+]?[0-9]*\.[0-9]+", text):
         return ["numbers are whole: count in smaller units, 15 in place of 1.5"]
     return []
+
+
+def unescaped(text: bytes) -> bytes:
+    """The bytes for which what stands between quotes stands."""
+    def byte(found: "re.Match[bytes]") -> bytes:
+        """The byte of an escape."""
+        mark = found.group(1)
+        return bytes([int(mark[1:], 16)]) if mark[:1] == b"x" else b"\n" if mark == b"n" else mark
+    return re.sub(rb"\\(x..|.)", byte, text)
+
+
+def is_utf8(text: bytes) -> bool:
+    """Whether the bytes are UTF-8."""
+    try:
+        text.decode("utf-8")
+    except UnicodeDecodeError:
+        return False
+    return True
 
 
 def by_signs(text: bytes) -> List[str]:
@@ -297,6 +380,7 @@ class World:
         self.runners: Optional[Word] = None
         self.count = 1
         self.events = 0
+        self.tellings: List[Telling] = []
         self.moment = 0
         self.moment_word: Optional[Word] = None
         self.open: Optional[Row] = None
@@ -437,15 +521,17 @@ class World:
         return row
 
     def read_condition(self, line: Line) -> None:
-        """`condition ID is NAME OP INT`, or `condition ROW when EXPR`"""
+        """`condition ID is NAME OP INT`, `condition ROW when EXPR` or `condition ROW told`"""
         word = line.next("ID")
-        if line.sign("is", "when").text == "is":
+        sort = line.sign("is", "when", "told").text
+        if sort == "is":
             self.read_comparison(line, word)
             return
         head = self.head(line, word)
-        expr = line.expr()
+        exprs = [line.expr()] if sort == "when" else []
+        line.stop()
         self.close()
-        self.new_row(line, head, "when", [expr])
+        self.new_row(line, head, sort, exprs)
 
     def read_comparison(self, line: Line, id_: Word) -> None:
         """`NAME OP INT` of the condition of this ID."""
@@ -464,20 +550,17 @@ class World:
         self.rows[id_.text] = Row(id_, [], "is", test=Test(fact.text, sign.text, number_))
 
     def read_action(self, line: Line) -> None:
-        """`action ROW timed MS`, `action ROW replay MS OUTCOMES` or `action ROW gate EXPR`"""
+        """`action ROW timed MS`, `action ROW replay MS OUTCOMES`, `action ROW gate EXPR` or `action ROW told`"""
         word = line.next("ID")
-        sort = line.sign("timed", "replay", "gate").text
+        sort = line.sign("timed", "replay", "gate", "told").text
         head = self.head(line, word)
-        exprs = []
-        if sort == "gate":
-            exprs = [line.expr()]
-        else:
-            length = line.canonical("number of milliseconds")
-            if sort == "replay":
-                self.outcomes(line)
-            line.stop()
+        exprs = [line.expr()] if sort == "gate" else []
+        length = line.canonical("number of milliseconds") if sort in ("timed", "replay") else None
+        if sort == "replay":
+            self.outcomes(line)
+        line.stop()
         self.close()
-        if sort != "gate":
+        if length is not None:
             line.in_range(length, 0, LAST_MOMENT, "milliseconds")
         self.open = self.new_row(line, head, sort, exprs)
 
@@ -495,10 +578,18 @@ class World:
             line.bad(line.words[0].span(), f"above a line `{line.words[0].text}` stands an action, with such lines alone between")
         return self.open
 
+    def modelled(self, line: Line) -> Row:
+        """The action above the line, which is not told how it ended."""
+        row = self.opened(line)
+        if row.is_told():
+            line.bad(line.words[0].span(), f"the action {row.id.text} is told how it ended, and can't have such a line",
+                     ["it may have lines `out PORT`, with the name alone, for outputs that it is told"])
+        return row
+
     def read_fails(self, line: Line) -> None:
         """`fails EXPR`"""
         expr = line.expr()
-        row = self.opened(line)
+        row = self.modelled(line)
         if row.sort != "timed":
             line.bad(line.words[0].span(), f"the action {row.id.text} is not timed, and can't have such a line")
         self.once(line, line.words[0], row.fails, f"a second line `fails` of {row.id.text}")
@@ -510,7 +601,7 @@ class World:
         """`needs ID`"""
         id_ = line.name("ID")
         line.stop()
-        row = self.opened(line)
+        row = self.modelled(line)
         self.known_condition(line, id_)
         self.once(line, id_, row.needs.get(id_.text), f"{row.id.text} needs {id_.text} already")
         self.not_too_many(line, len(row.needs), "needs")
@@ -522,7 +613,7 @@ class World:
         sign = line.sign("=", "+=")
         value = line.canonical("number")
         line.stop()
-        row = self.opened(line)
+        row = self.modelled(line)
         number_ = line.in_range(value, -2 ** 63, 2 ** 63 - 1, "a fact")
         self.known_fact(line, fact)
         earlier = row.sets.get(fact.text)
@@ -531,8 +622,14 @@ class World:
         row.sets[fact.text] = Effect(fact, sign.text, number_)
 
     def read_out(self, line: Line) -> None:
-        """`out PORT = EXPR`"""
+        """`out PORT = EXPR` or `out PORT`"""
         port = line.name("port")
+        if self.open is not None and self.open.is_told():
+            self.read_told_out(line, self.open, port)
+            return
+        if len(line.words) == 2 and self.open is not None:
+            line.bad((line.end, line.end), f"the action {self.open.id.text} works its outputs out: = and an expression are missing",
+                     ["a name alone is an output of an action that is told how it ended"])
         line.sign("=")
         expr = line.expr()
         row = self.opened(line)
@@ -541,6 +638,13 @@ class World:
         self.not_too_many(line, len(row.outs), "outs")
         row.outs[port.text] = port
         row.exprs.append(expr)
+
+    def read_told_out(self, line: Line, row: Row, port: Word) -> None:
+        """What follows `out PORT` of an action that is told how it ended: nothing."""
+        line.stop([f"the value of {port.text} is told with `tell`"])
+        self.once(line, port, row.outs.get(port.text), f"{row.id.text} has the output {port.text} already")
+        self.not_too_many(line, len(row.outs), "outs")
+        row.outs[port.text] = port
 
     # ---- the run
 
@@ -601,6 +705,40 @@ class World:
         line.in_range(value, -2 ** 63, 2 ** 63 - 1, "a fact")
         self.known_fact(line, name)
         self.event(line)
+
+
+    def read_tell(self, line: Line) -> None:
+        """`tell R UID SUCCESS NAME=VALUE ..` or `tell R UID FAILURE`"""
+        runner = line.canonical("number of a runner")
+        leaf = line.canonical("uid of a leaf")
+        status = line.sign("SUCCESS", "FAILURE").text
+        if status == "FAILURE":
+            line.stop(["outputs are told with SUCCESS alone"])
+        outs = line.outputs()
+        self.close()
+        line.in_range(runner, 1, self.count, "runners, of which a line `runners N` says the number")
+        uid = line.in_range(leaf, 0, LAST_UID, "uids")
+        for name, value in outs:
+            if not value.text.startswith("'"):
+                line.in_range(value, -2 ** 63, 2 ** 63 - 1, "a number")
+        seen: Dict[str, Word] = {}
+        for name, value in outs:
+            self.once(line, name, seen.get(name.text), f"a second value of {name.text}")
+            seen[name.text] = name
+        self.few_outputs(line, outs)
+        self.event(line)
+        self.tellings.append(Telling(leaf, runner, uid, [name for name, value in outs]))
+
+    def few_outputs(self, line: Line, outs: List[Tuple[Word, Word]]) -> None:
+        """Raises where a telling has too many outputs, or too long a text."""
+        if len(outs) > MOST["outs"]:
+            raise line.fault("TooMany", outs[MOST["outs"]][0].span(), f"the telling has {len(outs)} outputs",
+                             [f"at most {MOST['outs']} outs"])
+        for name, value in outs:
+            text = unescaped(value.text[1:-1].encode("latin-1")) if value.text.startswith("'") else b""
+            if len(text) > MOST_TEXT_BYTES:
+                raise line.fault("TooMany", value.span(), f"the text of {name.text} has {len(text)} bytes",
+                                 [f"a text has at most {MOST_TEXT_BYTES:,} bytes"])
 
 
 def read_world(source: Source) -> World:

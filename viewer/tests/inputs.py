@@ -8,7 +8,7 @@ TOP = pathlib.Path(__file__).resolve().parents[2]
 EXAMPLES = TOP / "examples"
 DATA = TOP / "viewer" / "tests" / "data"
 STATUSES = ("IDLE", "RUNNING", "SUCCESS", "FAILURE")
-HEADERS = ("tick", "halt", "set", "finish")
+HEADERS = ("tick", "halt", "set", "tell", "finish")
 
 # The program that stands in where none is built. It knows the outputs of the stored files: TREE.checked, which a file of
 # version 3 needs, TREE.trace, and WORLD.plan or, of a planned example, its tree.

@@ -16,7 +16,7 @@ SLOWLY = """
 import sys
 pipe = open(sys.argv[2])
 for number, line in enumerate(open(sys.argv[1])):
-    if line.split()[0] in ("tick", "set", "halt", "finish") and number > 0:
+    if line.split()[0] in ("tick", "set", "tell", "halt", "finish") and number > 0:
         pipe.readline()
     sys.stdout.write(line)
     sys.stdout.flush()
@@ -158,7 +158,7 @@ class OtherRuns:
     def test_compared_with_a_file(self):
         cut = self.folder / "shorter.trace"
         lines = (EXAMPLES / "fetch_cup.trace").read_text().splitlines(keepends=True)
-        last = max(number for number, line in enumerate(lines) if line.startswith(("tick", "set", "finish")))
+        last = max(number for number, line in enumerate(lines) if line.startswith(("tick", "set", "tell", "finish")))
         cut.write_text("".join(lines[:last]))
         status, _ = self.view(EXAMPLES / "fetch_cup.xml", EXAMPLES / "fetch_cup.world", "--compare", str(cut))
         same("the status", status, 0)

@@ -56,6 +56,7 @@ pub trait Notes {
     fn halt(&mut self, runner: u32, at: u64) {}
     fn finish(&mut self, runner: u32, at: u64) {}
     fn change(&mut self, fact: u32, value: i64, at: u64) {}
+    fn tell(&mut self, runner: u32, uid: u32, succeeds: bool, at: u64) {}
     fn changed(&mut self, node: u32, old: Status, new: Status) {}
     fn called(&mut self, node: u32, starts: bool, answer: Answer);
     fn halted(&mut self, node: u32);
@@ -119,7 +120,11 @@ pub fn join(tree: &mut Tree, world: &World) -> Result<Leaves, Refusal> {
                 Some(Given::Key(_, name)) => Input::Slot(slot(name)),
             });
         }
-        for (port, _) in &world.rows[row as usize].outputs {
+        let told = match &world.rows[row as usize].sort {
+            Sort::Told(outs) => &outs[..],
+            _ => &[],
+        };
+        for port in world.rows[row as usize].outputs.iter().map(|it| &it.0).chain(told) {
             joined.outputs.push(match given(port) {
                 Some(Given::Key(_, name)) => slot(name),
                 _ => NONE,
@@ -128,7 +133,27 @@ pub fn join(tree: &mut Tree, world: &World) -> Result<Leaves, Refusal> {
         tree.nodes[at].detail = joined.leaves.len() as u32;
         joined.leaves.push(Leaf { node: at as u32, row, inputs, outputs });
     }
+    for event in &world.events {
+        if let What::Tell { uid, telling, .. } = event.what {
+            find_told(tree, world, &joined, uid, telling)?;
+        }
+    }
     Ok(joined)
+}
+
+/// Whether there is a leaf that can be told this.
+fn find_told(tree: &Tree, world: &World, joined: &Leaves, uid: u32, telling: u32) -> Result<(), Refusal> {
+    let node = (uid as usize).checked_sub(1).and_then(|it| tree.nodes.get(it)).filter(|it| it.kind == Kind::Leaf);
+    let row = node.map(|it| &world.rows[joined.leaves[it.detail as usize].row as usize].sort);
+    let outs = match row {
+        Some(Sort::Sensed) => &[],
+        Some(Sort::Told(outs)) => &outs[..],
+        _ => return Err(Refusal::world(format!("NoLeaf {uid}"))),
+    };
+    if world.tellings[telling as usize].outputs.iter().any(|it| !outs.contains(&it.0)) {
+        return Err(Refusal::world(format!("NoOutput {uid}")));
+    }
+    Ok(())
 }
 
 /// What a node keeps beside its status. Only the index of a SequenceWithMemory and the mark of a RunOnce mean something
@@ -151,6 +176,8 @@ pub struct Instance {
     pub is_held: bool,
     pub since: u64,
     pub completions: u8,
+    /// The telling that it was told last, and whether it is of success.
+    pub told: Option<(u32, bool)>,
 }
 
 /// Values that tell which of them changed since the last block.
@@ -332,7 +359,8 @@ impl<'t, N: Notes> Turn<'t, N> {
         let node = self.node(at);
         self.reset_from(node, 0)?;
         if node.kind == Kind::Leaf {
-            self.runner.instances[node.detail as usize].is_held = false;
+            let instance = &mut self.runner.instances[node.detail as usize];
+            (instance.is_held, instance.told) = (false, None);
             self.notes.halted(at);
         }
         if node.kind == Kind::SequenceWithMemory {
@@ -775,6 +803,7 @@ impl<'t, N: Notes> Turn<'t, N> {
             instance.since = self.now;
         }
         let mut outputs = [0; PORTS as usize];
+        let told = instance.told;
         match self.call(leaf, row, &mut instance, &mut outputs) {
             Ok(answer) => {
                 instance.is_held = answer == Answer::Running;
@@ -782,6 +811,7 @@ impl<'t, N: Notes> Turn<'t, N> {
                 self.notes.called(at, starts, answer);
                 if answer == Answer::Success {
                     self.write_outputs(leaf, row, &outputs);
+                    self.write_told(leaf, row, told);
                 }
                 Ok(answer)
             }
@@ -794,6 +824,20 @@ impl<'t, N: Notes> Turn<'t, N> {
             let slot = self.plan.leaves.outputs[leaf.outputs as usize + number];
             if slot != NONE {
                 self.runner.board.put(slot, Value::Int(value));
+            }
+        }
+    }
+
+    /// Writes the values that an action was told with SUCCESS, in the order of its outputs.
+    fn write_told(&mut self, leaf: &Leaf, row: &Row, told: Option<(u32, bool)>) {
+        let (Sort::Told(outs), Some((telling, true))) = (&row.sort, told) else {
+            return;
+        };
+        let values = &self.plan.world.tellings[telling as usize].outputs;
+        for (number, port) in outs.iter().enumerate() {
+            let slot = self.plan.leaves.outputs[leaf.outputs as usize + number];
+            if let Some((_, value)) = values.iter().find(|it| it.0 == *port).filter(|_| slot != NONE) {
+                self.runner.board.put(slot, value.clone());
             }
         }
     }
@@ -863,6 +907,13 @@ pub fn ask(row: &Row, instance: &mut Instance, now: u64, mut number: impl FnMut(
         }
         Sort::Gate(test) if number(*test)? != 0 => Answer::Success,
         Sort::Gate(_) => Answer::Running,
+        Sort::Sensed if instance.told.is_some_and(|it| it.1) => Answer::Success,
+        Sort::Sensed => Answer::Failure,
+        Sort::Told(_) => match instance.told.take() {
+            None => Answer::Running,
+            Some((_, true)) => Answer::Success,
+            Some((_, false)) => Answer::Failure,
+        },
     })
 }
 
@@ -936,6 +987,13 @@ impl<N: Notes> Run<'_, N> {
                 self.notes.change(fact, value, event.at);
                 self.facts.put(fact, value);
                 self.tell_facts();
+                Ok(())
+            }
+            What::Tell { runner, uid, telling } => {
+                let succeeds = self.plan.world.tellings[telling as usize].succeeds;
+                self.notes.tell(runner, uid, succeeds, event.at);
+                let leaf = self.plan.tree.nodes[uid as usize - 1].detail as usize;
+                self.runners[runner as usize - 1].instances[leaf].told = Some((telling, succeeds));
                 Ok(())
             }
         }

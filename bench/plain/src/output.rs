@@ -258,6 +258,16 @@ impl Notes for Trace<'_> {
         self.out.text("\n");
     }
 
+    fn tell(&mut self, runner: u32, uid: u32, succeeds: bool, at: u64) {
+        self.out.text("tell ");
+        self.out.number(i64::from(runner));
+        self.out.text(" ");
+        self.out.number(i64::from(uid));
+        self.out.text(if succeeds { " SUCCESS at " } else { " FAILURE at " });
+        self.out.number(at as i64);
+        self.out.text("\n");
+    }
+
     #[inline]
     fn changed(&mut self, node: u32, old: Status, new: Status) {
         self.out.halves(&self.beginnings[node as usize].0, &CHANGES[old as usize & 3][new as usize & 3]);

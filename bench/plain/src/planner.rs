@@ -213,7 +213,7 @@ impl<'w> Run<'w> {
         let world = self.world;
         let row = &world.rows[sequence.action as usize];
         let since = if self.held == at { self.since } else { self.now };
-        let mut instance = Instance { is_held: false, since, completions: self.completions[at as usize] };
+        let mut instance = Instance { is_held: false, since, completions: self.completions[at as usize], told: None };
         let mut number = |code: Code| {
             let fact = |name: u32| Ok(self.facts[(name - PORTS) as usize]);
             world.codes.number(code, fact, &mut self.stacks)

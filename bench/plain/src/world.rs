@@ -3,7 +3,8 @@
 use crate::build::is_reserved;
 use crate::output::Refusal;
 use crate::scan::{canonical, is_identifier, Canonical, Map};
-use crate::scripts::{Code, Codes, Comparison, Form};
+use crate::scripts::{Code, Codes, Comparison, Form, Value};
+use std::rc::Rc;
 
 const MOST_FACTS: usize = 1_024;
 const MOST_ROWS: usize = 1_024;
@@ -17,6 +18,7 @@ const MOST_RUNNERS: i64 = 16;
 const LONGEST_NAME: usize = 64;
 const LONGEST_OUTCOMES: usize = 64;
 const LATEST: i64 = 1_000_000_000_000;
+const LONGEST_TEXT: usize = 4_096;
 /// In expressions the names below are input ports of the row, and the others facts.
 pub const PORTS: u32 = MOST_PORTS as u32;
 
@@ -36,6 +38,17 @@ pub enum Sort<'w> {
     Timed { length: u64, fails: Option<Code> },
     Replay { length: u64, outcomes: &'w [u8] },
     Gate(Code),
+    Sensed,
+    Told(Vec<&'w [u8]>),
+}
+
+/// What a leaf is told: whether it succeeds, and values of its outputs.
+#[derive(Default)]
+pub struct Telling<'w> {
+    /// Whether it succeeds.
+    pub succeeds: bool,
+    /// The outputs by their names.
+    pub outputs: Vec<(&'w [u8], Value)>,
 }
 
 /// An effect on a fact.
@@ -71,6 +84,8 @@ pub enum What {
     Tick(u32),
     Halt(u32),
     Change { fact: u32, value: i64 },
+    /// The telling of this number.
+    Tell { runner: u32, uid: u32, telling: u32 },
 }
 
 /// An event and its moment.
@@ -97,6 +112,8 @@ pub struct World<'w> {
     pub runners: u32,
     /// The events in order.
     pub events: Vec<Event>,
+    /// What leaves are told, in the order of the events.
+    pub tellings: Vec<Telling<'w>>,
     /// The code of all expressions.
     pub codes: Codes,
 }
@@ -185,8 +202,85 @@ impl<'w> Words<'w> {
         canonical(self.next()?).ok_or(Wrong::BadLine)
     }
 
+    /// An output, `NAME=VALUE`.
+    fn output(&mut self) -> Answer<(&'w [u8], Told)> {
+        let length = self.rest.iter().take_while(|&&it| it != b'=').count();
+        let (name, rest) = self.rest.split_at(length);
+        must(is_name(name) && !rest.is_empty(), Wrong::BadLine)?;
+        self.rest = &rest[1..];
+        let value = if let Some(inner) = self.rest.strip_prefix(b"'") {
+            self.rest = inner;
+            let text = self.text()?;
+            must(self.rest.first().is_none_or(|&it| is_blank(it)), Wrong::BadLine)?;
+            self.skip_blanks();
+            Told::Text(text)
+        } else {
+            Told::Number(self.number()?)
+        };
+        Ok((name, value))
+    }
+
+    /// The rest of a text between quotes, up to and with its last quote.
+    fn text(&mut self) -> Answer<Vec<u8>> {
+        let mut text = Vec::new();
+        loop {
+            let (&byte, rest) = self.rest.split_first().ok_or(Wrong::BadLine)?;
+            self.rest = rest;
+            match byte {
+                b'\'' => break,
+                b'\\' => text.push(self.escape()?),
+                b' '..=b'~' => text.push(byte),
+                _ => return Err(Wrong::BadLine),
+            }
+        }
+        must(std::str::from_utf8(&text).is_ok(), Wrong::BadLine)?;
+        Ok(text)
+    }
+
+    /// What stands after a backslash.
+    fn escape(&mut self) -> Answer<u8> {
+        let (&byte, rest) = self.rest.split_first().ok_or(Wrong::BadLine)?;
+        self.rest = rest;
+        match byte {
+            b'\'' | b'\\' => Ok(byte),
+            b'n' => Ok(b'\n'),
+            b'x' => {
+                let (digits, rest) = self.rest.split_at_checked(2).ok_or(Wrong::BadLine)?;
+                self.rest = rest;
+                Ok(16 * digit(digits[0])? + digit(digits[1])?)
+            }
+            _ => Err(Wrong::BadLine),
+        }
+    }
+
     fn sign(&mut self, sign: &[u8]) -> Answer<()> {
         must(self.next()? == sign, Wrong::BadLine)
+    }
+}
+
+/// A value that is told, as it is written.
+enum Told {
+    Number(Canonical),
+    Text(Vec<u8>),
+}
+
+impl Told {
+    /// The value, where it is in its range.
+    fn kept(self) -> Value {
+        match self {
+            Told::Number(Canonical::Fits(number)) => Value::Int(number),
+            Told::Number(Canonical::TooWide) => Value::Absent,
+            Told::Text(text) => Value::Text(Rc::new(text.into())),
+        }
+    }
+}
+
+/// The number of a hexadecimal digit, whose letters are small.
+fn digit(byte: u8) -> Answer<u8> {
+    match byte {
+        b'0'..=b'9' => Ok(byte - b'0'),
+        b'a'..=b'f' => Ok(byte - b'a' + 10),
+        _ => Err(Wrong::BadLine),
     }
 }
 
@@ -249,6 +343,7 @@ impl<'w> Reader<'w> {
         match word {
             b"tick" | b"halt" => self.event(word, words),
             b"set" => self.change(words),
+            b"tell" => self.tell(words),
             b"at" => self.at(words),
             b"fails" | b"needs" | b"sets" | b"out" => return self.detail(word, words),
             b"fact" => self.fact(words),
@@ -280,6 +375,33 @@ impl<'w> Reader<'w> {
         let value = within(value, i64::MIN, i64::MAX)?;
         let fact = self.known_fact(name)?;
         self.happens(What::Change { fact, value })
+    }
+
+    fn tell(&mut self, mut words: Words<'w>) -> Answer<()> {
+        let runner = words.number()?;
+        let uid = words.number()?;
+        let succeeds = match words.next()? {
+            b"SUCCESS" => true,
+            b"FAILURE" => false,
+            _ => return Err(Wrong::BadLine),
+        };
+        let mut written = Vec::new();
+        while !words.rest.is_empty() {
+            must(succeeds, Wrong::BadLine)?;
+            written.push(words.output()?);
+        }
+        let runner = within(runner, 1, i64::from(self.world.runners))? as u32;
+        let uid = within(uid, 0, i64::from(u32::MAX))? as u32;
+        let all_fit = written.iter().all(|(_, it)| !matches!(it, Told::Number(Canonical::TooWide)));
+        must(all_fit, Wrong::Range)?;
+        must(crate::scan::are_different(written.iter().map(|it| &it.0)), Wrong::DoubleName)?;
+        let all_short = written.iter().all(|(_, it)| !matches!(it, Told::Text(text) if text.len() > LONGEST_TEXT));
+        must(written.len() <= MOST_OUTPUTS && all_short, Wrong::TooMany)?;
+        let telling = self.world.tellings.len() as u32;
+        self.happens(What::Tell { runner, uid, telling })?;
+        let outputs = written.into_iter().map(|(name, value)| (name, value.kept())).collect();
+        self.world.tellings.push(Telling { succeeds, outputs });
+        Ok(())
     }
 
     fn happens(&mut self, what: What) -> Answer<()> {
@@ -363,6 +485,11 @@ impl<'w> Reader<'w> {
                 let sort = Sort::When(test.known()?);
                 self.row(head, sort)
             }
+            b"told" => {
+                words.end()?;
+                self.must_be_new(&head)?;
+                self.row(head, Sort::Sensed)
+            }
             _ => Err(Wrong::BadLine),
         }
     }
@@ -392,6 +519,11 @@ impl<'w> Reader<'w> {
                 let sort = Sort::Gate(test.known()?);
                 self.row(head, sort)
             }
+            b"told" => {
+                words.end()?;
+                self.must_be_new(&head)?;
+                self.row(head, Sort::Told(Vec::new()))
+            }
             _ => Err(Wrong::BadLine),
         }
     }
@@ -415,6 +547,7 @@ impl<'w> Reader<'w> {
         let mut row = self.world.rows.pop().ok_or(Wrong::BadLine)?;
         let read = match word {
             _ if !self.is_in_action => Err(Wrong::BadLine),
+            _ if matches!(row.sort, Sort::Told(_)) => told_out(&mut row, word, words),
             b"fails" => self.fails(&mut row, words.rest),
             b"needs" => self.needs(&mut row, words),
             b"sets" => self.sets(&mut row, words),
@@ -488,6 +621,20 @@ impl<'w> Reader<'w> {
         let code = self.world.codes.read(text, Form::Expression, &mut number_of).map_err(|_| Wrong::BadLine)?;
         Ok(Expression { code, is_known })
     }
+}
+
+/// Reads an output of an action that is told how it ended: its name alone.
+fn told_out<'w>(row: &mut Row<'w>, word: &[u8], mut words: Words<'w>) -> Answer<()> {
+    must(word == b"out", Wrong::BadLine)?;
+    let port = words.last()?;
+    must(is_name(port), Wrong::BadLine)?;
+    let Sort::Told(outs) = &mut row.sort else {
+        return Err(Wrong::BadLine);
+    };
+    must(!outs.contains(&port), Wrong::DoubleName)?;
+    must(outs.len() < MOST_OUTPUTS, Wrong::TooMany)?;
+    outs.push(port);
+    Ok(())
 }
 
 /// Reads `ID` or `ID(p,q)`.

@@ -13,7 +13,10 @@ use Rattle.spec_world.specs.declared.world.Row.{Row}
 use Rattle.spec_world.specs.declared.world.RowSort.{RowSort}
 use Rattle.spec_world.specs.declared.world.RowSort.TheVariants as sort
 use Rattle.spec_world.specs.declared.world.Set.{Set}
-use Rattle.spec_run.specs.Leaf.{Answered, Rule, Test, Way, Tests, Lasts, Replays, Waits, answer_by, completed, completion, decided, effects_of, fact_at, finished, held, judged, lasting, leaf_rule, released, made_by, outcome_at, outputs_of, replied, rule_answer, rule_of, start_of, timed_end, way_of}
+use Rattle.spec_world.specs.declared.world.Telling.{Telling}
+use Rattle.spec_world.specs.declared.world.Telling.TheVariants as telling
+use Rattle.spec_world.specs.declared.world.ToldOut.{ToldOut}
+use Rattle.spec_run.specs.Leaf.{Answered, Rule, Test, Way, Tests, Lasts, Replays, Waits, Heeds, Obeys, answer_by, completed, completion, decided, effects_of, fact_at, finished, held, judged, lasting, leaf_rule, released, made_by, outcome_at, outputs_of, replied, rule_answer, rule_of, sensed, start_of, timed_end, told_end, unheld, way_of}
 use Rattle.base_tables.specs.Outputs.{since_after}
 use Rattle.base_tables.specs.Shapes.{Lasts as SortLasts}
 
@@ -34,6 +37,7 @@ effects_keep (s ∷ ss) facts = effect_keeps facts s.fact (made_by s.how s.value
 -- a condition answers at once
 abbrev WayLasts : Way → Type 0
 WayLasts (Tests test) = ⊥
+WayLasts Heeds = ⊥
 WayLasts _ = Unit {0}
 
 -- of a leaf that answers so and began at this moment, with this instance and these facts before
@@ -52,6 +56,10 @@ module _ (way : Way) (rule : Rule) (since : ℕ) (instance : Instance) (inputs :
 
   failed_keeps : (after : Instance) → after.since ≡ None → Kept (replied Failure after facts)
   failed_keeps after free = record { held_while_running = free; as_many = refl; lasts = λ e. cc; breaks = λ c e. cc }
+
+  succeeded_keeps : (told : List ToldOut) (after : Instance) → after.since ≡ None →
+      Kept (record { reply = Success; instance = after; facts = facts; outputs = []; told = told })
+  succeeded_keeps told after free = record { held_while_running = free; as_many = refl; lasts = λ e. cc; breaks = λ c e. cc }
 
   running_keeps : WayLasts way → Kept (replied Running (held since instance) facts)
   running_keeps lasts = record { held_while_running = refl; as_many = refl; lasts = λ e. lasts; breaks = λ c e. cc }
@@ -83,12 +91,22 @@ module _ (way : Way) (rule : Rule) (since : ℕ) (instance : Instance) (inputs :
       ]
 
   tested_keeps : (b : Bool) → Kept (replied (if b then Success else Failure) (released instance) facts)
-  tested_keeps true = record { held_while_running = refl; as_many = refl; lasts = λ e. cc; breaks = λ c e. cc }
+  tested_keeps true = succeeded_keeps [] (released instance) refl
   tested_keeps false = failed_keeps (released instance) refl
 
   awaited_keeps : WayLasts way → (b : Bool) → Kept (if b then completion rule instance (released instance) inputs facts else replied Running (held since instance) facts)
   awaited_keeps lasts true = decided_keeps true (released instance) refl
   awaited_keeps lasts false = running_keeps lasts
+
+  sensed_keeps : (o : Option Telling) → Kept (replied (sensed o) (unheld instance) facts)
+  sensed_keeps (Some (telling.Success outs)) = succeeded_keeps [] (unheld instance) refl
+  sensed_keeps (Some telling.Failure) = failed_keeps (unheld instance) refl
+  sensed_keeps None = failed_keeps (unheld instance) refl
+
+  obeyed_keeps : WayLasts way → (o : Option Telling) → Kept (told_end o since instance facts)
+  obeyed_keeps lasts (Some (telling.Success outs)) = succeeded_keeps outs (released instance) refl
+  obeyed_keeps lasts (Some telling.Failure) = failed_keeps (released instance) refl
+  obeyed_keeps lasts None = running_keeps lasts
 
 answer_keeps : (way : Way) (rule : Rule) (since : ℕ) (instance : Instance) (inputs : List Seen) (facts : List ℤ) (now : ℕ) → Keeps way since instance facts (answer_by way rule since instance inputs facts now)
 answer_keeps (Tests test) rule since instance inputs facts now =
@@ -101,6 +119,8 @@ answer_keeps (Replays ms outcomes) rule since instance inputs facts now =
 answer_keeps (Waits test) rule since instance inputs facts now =
     judged_keeps (Waits test) rule since instance inputs facts (test inputs facts) (λ b. if b then completion rule instance (released instance) inputs facts else replied Running (held since instance) facts)
     (awaited_keeps (Waits test) rule since instance inputs facts tt)
+answer_keeps Heeds rule since instance inputs facts now = sensed_keeps Heeds rule since instance inputs facts instance.told
+answer_keeps Obeys rule since instance inputs facts now = obeyed_keeps Obeys rule since instance inputs facts tt instance.told
 
 -- a call by a rule
 pub call_keeps : (rule : Rule) (phase : Phase) (instance : Instance) (inputs : List Seen) (facts : List ℤ) (now : ℕ) →
@@ -121,6 +141,7 @@ sort_lasts : (places : List ℕ → ℕ) (s : RowSort) → WayLasts (way_of plac
 sort_lasts places (sort.Timed ms fails) lasts = tt
 sort_lasts places (sort.Replay ms outcomes) lasts = tt
 sort_lasts places (sort.Gate test) lasts = tt
+sort_lasts places (sort.Told outs) lasts = tt
 sort_lasts places _ lasts = absurd lasts
 
 -- only a leaf whose row lasts answers RUNNING

@@ -5,7 +5,8 @@ use Rattle.spec_run.specs.declared.leaf.DriverKind.{DriverKind}
 use Rattle.spec_run.specs.declared.leaf.Instance.{Instance}
 use Rattle.spec_run.specs.declared.leaf.Phase.{Phase}
 use Rattle.spec_world.specs.declared.world.RowSort.TheVariants.{Timed, Replay, Gate}
-use Rattle.spec_run.specs.Leaf.{Way, Tests, Lasts, Replays, Waits, Rule, Answered, released, rule_answer}
+use Rattle.spec_world.specs.declared.world.Telling.{Telling}
+use Rattle.spec_run.specs.Leaf.{Way, Tests, Lasts, Replays, Waits, Heeds, Obeys, Rule, Answered, released, rule_answer, told}
 use Rattle.spec_run.specs.Drivers.{DriverState, instance_of, is_held, after_call, driver_at}
 use Rattle.spec_run.specs.declared.leaf.DriverKind.TheVariants as driver
 use Rattle.spec_run.specs.declared.leaf.Phase.TheVariants as phase
@@ -16,6 +17,8 @@ kind_of_way (Tests test) = driver.Condition
 kind_of_way (Lasts ms fails) = driver.Timed
 kind_of_way (Replays ms outcomes) = driver.Replay
 kind_of_way (Waits test) = driver.Gate
+kind_of_way Heeds = driver.Told
+kind_of_way Obeys = driver.Told
 
 -- how many instances are held
 abbrev pub held_count : DriverState → ℕ
@@ -29,6 +32,10 @@ IsHeldBy instance now = MatchOption instance.since ⊥ (λ since. since ≤ now)
 abbrev pub after_halted : DriverState → ℕ → DriverState
 after_halted d instance = after_call d phase.Halted instance (released (instance_of d instance))
 
+-- the driver after an instance was told something
+abbrev pub after_told : DriverState → ℕ → Telling → DriverState
+after_told d instance telling = after_call d phase.Told instance (told telling (instance_of d instance))
+
 -- what a call of `start` or `running` of an instance leaves by this rule
 abbrev pub driver_answer : DriverState → ℕ → Rule → Phase → List Seen → List ℤ → ℕ → Answered
 driver_answer d instance rule phase inputs facts now = rule_answer rule phase (instance_of d instance) inputs facts now
@@ -40,6 +47,10 @@ instance_at ds place instance = instance_of (driver_at ds place) instance
 -- the drivers after the call `halted` of an instance
 abbrev pub roster_halted : List DriverState → ℕ → ℕ → List DriverState
 roster_halted ds place instance = slice_set ds place (after_halted (driver_at ds place) instance)
+
+-- the drivers after an instance of the one at a place was told something
+abbrev pub roster_told : List DriverState → ℕ → ℕ → Telling → List DriverState
+roster_told ds place instance telling = slice_set ds place (after_told (driver_at ds place) instance telling)
 
 -- there is this instance of the driver at this place
 abbrev pub IsThere : List DriverState → ℕ → ℕ → Type 0

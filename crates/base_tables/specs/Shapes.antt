@@ -19,7 +19,7 @@ use Rattle.spec_tree.specs.declared.term.PortValue.{PortValue}
 use Rattle.spec_tree.specs.declared.term.PortValue.TheVariants.{Lit, Key}
 use Rattle.spec_world.specs.declared.world.Row.{Row}
 use Rattle.spec_world.specs.declared.world.RowSort.{RowSort}
-use Rattle.spec_world.specs.declared.world.RowSort.TheVariants.{Timed, Replay, Gate}
+use Rattle.spec_world.specs.declared.world.RowSort.TheVariants.{Timed, Replay, Gate, Told}
 use Rattle.spec_tree.specs.Boards.{port_of}
 use Rattle.spec_tree.specs.BuiltIns.{fits}
 use Rattle.spec_run.specs.Ports.{given_by}
@@ -118,11 +118,12 @@ pub record IsBegun (since : Since) (moment : ℕ) (ports : List Port) (name : Li
   pub first : since.first ≤ moment
   pub length : IsGivenAt range.Duration ports name (pos since.length)
 
--- the row of a leaf that can be RUNNING is timed, replay or gate
+-- the row of a leaf that can be RUNNING is timed, replay, gate or told
 abbrev pub Lasts : RowSort → Type 0
 Lasts (Timed ms fails) = Unit {0}
 Lasts (Replay ms outcomes) = Unit {0}
 Lasts (Gate test) = Unit {0}
+Lasts (Told outs) = Unit {0}
 Lasts _ = ⊥
 
 -- there is such a row

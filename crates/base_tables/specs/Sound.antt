@@ -123,7 +123,7 @@ RunSteady term rows run =
 
 -- ---- Work
 
--- a call of `halted` begins no work
+-- a call of `halted` begins no work; no visit tells a leaf anything
 abbrev pub begins : Phase → ℕ
 begins phase.Halted = 0
 begins _ = 1

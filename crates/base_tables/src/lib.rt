@@ -14,7 +14,8 @@ pub use built_ins::{
 pub use limits::{
     LAST_MOMENT, MOST_DEPTH, MOST_EFFECTS, MOST_EVENTS, MOST_FACTS, MOST_FILE_BYTES, MOST_GOALS,
     MOST_KEYS, MOST_LEAVES, MOST_NAME_BYTES, MOST_NEEDS, MOST_NODES, MOST_OUTCOMES, MOST_OUTPUTS,
-    MOST_PORTS, MOST_ROUNDS, MOST_ROWS, MOST_RUNNERS, MOST_SCOPES, MOST_WORK, limits_are_named,
+    MOST_PORTS, MOST_ROUNDS, MOST_ROWS, MOST_RUNNERS, MOST_SCOPES, MOST_TEXT_BYTES, MOST_WORK,
+    limits_are_named,
 };
 pub use names::is_reserved;
 pub use numbers::{canonical_int, int, is_canonical};

@@ -1,5 +1,5 @@
 ghost use Rattle.std.specs.Prelude.{◌≡◌, pos};
-ghost use Rattle.spec_tree.specs.Limits.{last_moment, most_depth, most_effects, most_events, most_facts, most_file_bytes, most_goals, most_keys, most_leaves, most_name_bytes, most_needs, most_nodes, most_outcomes, most_outputs, most_ports, most_rounds, most_rows, most_runners, most_scopes, most_work};
+ghost use Rattle.spec_tree.specs.Limits.{last_moment, most_depth, most_effects, most_events, most_facts, most_file_bytes, most_goals, most_keys, most_leaves, most_name_bytes, most_needs, most_nodes, most_outcomes, most_outputs, most_ports, most_rounds, most_rows, most_runners, most_scopes, most_text_bytes, most_work};
 
 /// The greatest size of a file, in bytes.
 pub const MOST_FILE_BYTES: u64 = 1_048_576;
@@ -55,6 +55,9 @@ pub const MOST_OUTCOMES: usize = 64;
 /// The greatest length of a name in a world, in bytes.
 pub const MOST_NAME_BYTES: usize = 64;
 
+/// The greatest length of a text value, in bytes.
+pub const MOST_TEXT_BYTES: usize = 4096;
+
 /// The most rounds of a run by the clock.
 pub const MOST_ROUNDS: i64 = 100_000;
 
@@ -81,6 +84,7 @@ pub fn limits_are_named()
     ensures outputs { MOST_OUTPUTS ≡ most_outputs }
     ensures outcomes { MOST_OUTCOMES ≡ most_outcomes }
     ensures name_bytes { MOST_NAME_BYTES ≡ most_name_bytes }
+    ensures text_bytes { MOST_TEXT_BYTES ≡ most_text_bytes }
     ensures rounds { MOST_ROUNDS ≡ pos most_rounds }
     ensures leaves { MOST_LEAVES ≡ pos most_leaves }
 {}

@@ -10,7 +10,7 @@ mod txt;
 
 pub use boxed::Boxed;
 pub use items::Items;
-pub use name::Name;
+pub use name::{Name, copy_names};
 pub use shared::Shared;
 pub use stop::{NoMemory, Stop};
 pub use txt::Txt;

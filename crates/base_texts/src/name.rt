@@ -1,5 +1,6 @@
 ghost use Rattle.std.specs.Prelude.{◌≡◌, ◌≤◌, IsUtf8, IfOk, length, take};
 
+use crate::items::Items;
 use crate::stop::NoMemory;
 use std::alloc::Global;
 use std::cmp::Ordering;
@@ -106,6 +107,17 @@ impl Name {
         }
         Ok(Name::long(Vec::from_slice(alloc, self.long.as_slice())?))
     }
+}
+
+/// Equal names. `NoMemory` where an allocation fails.
+pub fn copy_names(alloc: Global, names: &[Name]) -> Result<Items<Name>, NoMemory>
+    ensures { IfOk result (λ copied. copied ≡ names.now) }
+{
+    let mut copied = Vec::with_capacity(alloc, names.len())?;
+    for name in names {
+        copied.push(name.copy(alloc)?)?;
+    }
+    Ok(Items::of(copied))
 }
 
 /// Copies the bytes over the front of a room.

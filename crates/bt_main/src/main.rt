@@ -6,7 +6,7 @@ use base_texts::{Name, NoMemory};
 use cli_program::{add_driver, bt};
 use cli_words::{NoWords, words_of};
 use run_driver::Driver;
-use run_leaves::{Conditions, Gate, Replay, Timed};
+use run_leaves::{Conditions, Gate, Replay, Timed, Told};
 use spec_program::Exit;
 use std::io;
 use std::process::ExitCode;
@@ -20,6 +20,7 @@ fn run(rt: &(impl Files + Print + Clock + AllocGlobal), words: &[Name]) -> Resul
     add_driver(&mut roster, Box::new(alloc, Timed::new(alloc))?)?;
     add_driver(&mut roster, Box::new(alloc, Replay::new(alloc))?)?;
     add_driver(&mut roster, Box::new(alloc, Gate::new(alloc))?)?;
+    add_driver(&mut roster, Box::new(alloc, Told::new(alloc))?)?;
     let mut shelf = DirShelf::new(rt);
     let mut out = OutSink::new(alloc, io::writer(rt))?;
     let mut clock = HostClock::new(rt);

@@ -36,7 +36,8 @@ use Rattle.spec_program.specs.Grounds.{GroundBegun, GroundGives, GroundPlanGives
 use Rattle.spec_program.specs.Printed.{ground_output, print_output}
 use Rattle.spec_program.specs.Jobs.{FilesBegin, FilesGive}
 use Rattle.spec_program.specs.Output.{AreUncalled, Asked, Never, Output, Times, UpToFault, line_of}
-use Rattle.spec_program.specs.Courses.{Given, given, joined_output, lack_of, run_output}
+use Rattle.spec_program.specs.Courses.{Given, given, joined_output, run_output}
+use Rattle.spec_run.specs.Joins.{lack_of}
 use Rattle.spec_program.specs.Gives.{MockGives, PrintGives, RunGives, Standing, TreeGives, is_too_long, itself, mocked, standing_output, world_output}
 use Rattle.spec_program.specs.Refused.{ground_refused, too_long, tree_refused, unread, world_refused}
 use Rattle.spec_program.specs.Plans.{FileBegun, PlanGives, ReadPlans}

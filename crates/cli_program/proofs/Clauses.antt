@@ -44,7 +44,8 @@ use Rattle.spec_program.specs.Printed.{ground_output, print_output}
 use Rattle.spec_program.specs.Jobs.{CommandGives, FilesBegin, FilesGive, files_of, held, held_by}
 use Rattle.spec_program.specs.Output.{AreUncalled, Output}
 use Rattle.spec_program.specs.Gives.{Beginning, Giving, MockGives, OrTooLong, PrintGives, ReadGives, RunGives, Standing, TreeGives, WorldGives, is_too_long, itself, mocked, standing_output, world_output}
-use Rattle.spec_program.specs.Courses.{Given, given, joined_output, lack_of, run_exit}
+use Rattle.spec_program.specs.Courses.{Given, given, joined_output, run_exit}
+use Rattle.spec_run.specs.Joins.{lack_of}
 use Rattle.spec_program.specs.Refused.{ground_refused, join_refused, no_goal, too_long, tree_refused, unread, words_refused, world_refused}
 use Rattle.spec_program.specs.TreeFiles.{TreeReads, built, element_read, with_models}
 use Rattle.spec_program.specs.Words.{Command, Tick, Live, Load, Check, Dead, Plan, Mock, Ground, GroundPlan}

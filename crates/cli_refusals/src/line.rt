@@ -164,6 +164,7 @@ fn driver_word(kind: DriverKind) -> &'static [u8]
         DriverKind::Timed => b"Timed",
         DriverKind::Replay => b"Replay",
         DriverKind::Gate => b"Gate",
+        DriverKind::Told => b"Told",
     }
 }
 
@@ -175,17 +176,19 @@ fn put_no_driver(out: &mut Vec<u8>, kind: DriverKind) -> Result<(), NoMemory>
     put_bytes(out, driver_word(kind))
 }
 
-/// Puts the words of what a leaf lacks.
+/// Puts the words of what a leaf, or a telling of one, lacks.
 fn put_join_fault(out: &mut Vec<u8>, fault: &JoinFault) -> Result<(), NoMemory>
     ensures { OnOk result (out.new.items ≡ out.old.items ++ join_words fault.now) }
 {
     match fault {
         JoinFault::NoRow { id } => put_named(out, b"NoRow", id),
         JoinFault::NoDriver { kind } => put_no_driver(out, *kind),
+        JoinFault::NoLeaf { uid } => put_numbered(out, b"NoLeaf", *uid),
+        JoinFault::NoOutput { uid } => put_numbered(out, b"NoOutput", *uid),
     }
 }
 
-/// The line that refuses a world in which a leaf has no row, or whose row has no driver.
+/// The line that refuses a world in which a leaf has no row, or whose row has no driver, or a telling finds no leaf.
 pub fn join_refusal(alloc: Global, fault: &JoinFault) -> Result<Vec<u8>, NoMemory>
     ensures { IfOk result (λ line. line.items ≡ codes "refused world " ++ join_words fault.now ++ codes "\n") }
 {

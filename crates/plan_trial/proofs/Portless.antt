@@ -23,14 +23,15 @@ use Rattle.spec_tree.specs.declared.term.Tree.{Tree}
 use Rattle.spec_world.specs.declared.world.Event.{Event}
 use Rattle.spec_world.specs.declared.world.Fact.{Fact}
 use Rattle.spec_world.specs.declared.world.Row.{Row}
+use Rattle.spec_world.specs.declared.world.Telling.{Telling}
 use Rattle.spec_world.specs.declared.world.What.{What}
-use Rattle.spec_world.specs.declared.world.What.TheVariants.{Tick, Halt, Change}
+use Rattle.spec_world.specs.declared.world.What.TheVariants.{Tick, Halt, Change, Tell}
 use Rattle.spec_world.specs.declared.world.World.{World}
 use Rattle.spec_run.specs.Done.{Call, Done, State, done}
 use Rattle.spec_run.specs.Leaf.{leaf_rule, rule_of}
 use Rattle.spec_run.specs.Leaves.{inputs_of, instance_at, leaf_call, phase_of, reply_answer, row_of, sight}
 use Rattle.spec_run.specs.Ports.{value_at}
-use Rattle.spec_run.specs.Run.{RunState, Runner, Stepped, Trace, before_rest, finish, finishes, opening, reset_step, root_reset, root_told, root_view, run_from, run_over, runner_at, settled, state_of, step, step_by, tick_step, ticked, told, with_runner}
+use Rattle.spec_run.specs.Run.{RunState, Runner, Stepped, Trace, before_rest, finish, finishes, opening, reset_step, root_reset, root_told, root_view, run_from, run_over, runner_at, settled, state_of, step, step_by, tell_step, tick_step, ticked, told, with_runner}
 use Rattle.spec_run.specs.Sites.{Meaning, Site, remembered}
 use Rattle.spec_run.specs.Visit.{change, meaning, meaning_of_node}
 use Rattle.spec_world.specs.Worlds.{IsValidRow}
@@ -140,10 +141,15 @@ module _ (world : World) where
         let s1 : State = state_of r s.facts at in
         done_step header runner at s (root_reset tree (root_view tree world) r.memory s1) (meets.reset (root_view tree world) (refl, refl) 1 r.memory s1 fits)
 
+    tell_meets : (o : Option Runner) (runner uid : ℕ) (telling : Telling) (at : ℕ) (s : RunState) → Fits s → StepMeets (tell_step o runner uid telling at s)
+    tell_meets None runner uid telling at s fits = record { state = fits; fault = tt }
+    tell_meets (Some r) runner uid telling at s fits = record { state = fits; fault = tt }
+
     step_meets : (what : What) (at : ℕ) (s : RunState) → Fits s → StepMeets (step_by what tree world at s)
     step_meets (Tick runner) at s fits = tick_meets (runner_at s runner) runner at s fits
     step_meets (Halt runner) at s fits = reset_meets (runner_at s runner) (header.Halt runner at) runner at s fits
     step_meets (Change fact value) at s fits = record { state = length-set s.facts fact value ∙ fits; fault = tt }
+    step_meets (Tell runner uid telling) at s fits = tell_meets (runner_at s runner) runner uid telling at s fits
 
     -- a step and what follows it
     rest_meets : (o : Option RunFault) (d : Stepped) (rest : RunState → Trace) → FaultMeets o → FaultMeets (rest d.state).fault → FaultMeets (before_rest o d rest).fault

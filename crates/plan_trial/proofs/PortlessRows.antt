@@ -39,9 +39,11 @@ use Rattle.spec_world.specs.declared.world.How.TheVariants.{To, By}
 use Rattle.spec_world.specs.declared.world.Out.{Out}
 use Rattle.spec_world.specs.declared.world.Row.{Row}
 use Rattle.spec_world.specs.declared.world.RowSort.{RowSort}
-use Rattle.spec_world.specs.declared.world.RowSort.TheVariants.{Is, When, Timed, Replay, Gate}
+use Rattle.spec_world.specs.declared.world.RowSort.TheVariants.{Is, When, Timed, Replay, Gate, Sensed, Told}
 use Rattle.spec_world.specs.declared.world.Set.{Set}
-use Rattle.spec_run.specs.Leaf.{Answered, Rule, Test, Way, Tests, Lasts, Replays, Waits, answer_by, as_number, cause_of, caused, completed, completion, decided, effects_of, fact_at, finished, held, judged, leaf_rule, made_by, number_of, outcome_at, outputs_of, padded, place_from, place_of, released, replied, rule_answer, sights, rule_by, start_of, test_of, timed_end, truth_of, way_of, with_output, worked_out}
+use Rattle.spec_world.specs.declared.world.Telling.{Telling}
+use Rattle.spec_world.specs.declared.world.Telling.TheVariants as telling
+use Rattle.spec_run.specs.Leaf.{Answered, Rule, Test, Way, Tests, Lasts, Replays, Waits, Heeds, Obeys, answer_by, as_number, cause_of, caused, completed, completion, decided, effects_of, fact_at, finished, held, judged, leaf_rule, made_by, number_of, outcome_at, outputs_of, padded, place_from, place_of, released, replied, rule_answer, sights, rule_by, sensed, start_of, test_of, timed_end, told_end, truth_of, way_of, with_output, worked_out}
 use Rattle.spec_world.specs.Worlds.{IsExprOver, IsValidRow, IsValidSort, names_of_facts}
 use Rattle.run_driver.proofs.Parts.{All-left, All-right}
 
@@ -257,6 +259,8 @@ module _ (names : List Fact) (facts : List ℤ) (many : length facts ≡ length 
   WayThere (Lasts ms fails) = IfSome fails (λ test. NoName (test [] facts))
   WayThere (Replays ms outcomes) = Unit {0}
   WayThere (Waits test) = NoName (test [] facts)
+  WayThere Heeds = Unit {0}
+  WayThere Obeys = Unit {0}
 
   module _ (rule : Rule) (outs : NoName (outputs_of rule.outs [] facts)) (instance : Instance) where
     completion_there : (after : Instance) → ReplyThere (completion rule instance after [] facts).reply
@@ -281,6 +285,16 @@ module _ (names : List Fact) (facts : List ℤ) (many : length facts ≡ length 
     tested_there true = tt
     tested_there false = tt
 
+    sensed_there : (told : Option Telling) → ReplyThere (sensed told)
+    sensed_there None = tt
+    sensed_there (Some (telling.Success outs)) = tt
+    sensed_there (Some telling.Failure) = tt
+
+    told_there : (told : Option Telling) (since : ℕ) → ReplyThere (told_end told since instance facts).reply
+    told_there None since = tt
+    told_there (Some (telling.Success outs)) since = tt
+    told_there (Some telling.Failure) since = tt
+
     answer_there : (way : Way) → WayThere way → (since now : ℕ) → ReplyThere (answer_by way rule since instance [] facts now).reply
     answer_there (Tests test) there since now = judged_there (test [] facts) there instance _ tested_there
     answer_there (Lasts ms fails) there since now = either_reply (nat_lt (now - since) ms) (replied Running (held since instance) facts) (timed_end fails rule instance [] facts) tt (timed_there fails there)
@@ -289,6 +303,8 @@ module _ (names : List Fact) (facts : List ℤ) (many : length facts ≡ length 
         either_reply (nat_lt (now - since) ms) (replied Running (held since instance) facts) (decided b rule instance (completed instance) [] facts) tt (decided_there b (completed instance))
     answer_there (Waits test) there since now =
         judged_there (test [] facts) there instance _ (λ b. either_reply b (completion rule instance (released instance) [] facts) (replied Running (held since instance) facts) (completion_there (released instance)) tt)
+    answer_there Heeds there since now = sensed_there instance.told
+    answer_there Obeys there since now = told_there instance.told since
 
   way_there : (sort : RowSort) → IsValidSort names [] sort → WayThere (way_of places sort)
   way_there (Is fact op value) valid = tt
@@ -297,6 +313,8 @@ module _ (names : List Fact) (facts : List ℤ) (many : length facts ≡ length 
   way_there (Timed ms (Some e)) valid = test_there e valid.1
   way_there (Replay ms outcomes) valid = tt
   way_there (Gate e) valid = test_there e valid
+  way_there Sensed valid = tt
+  way_there (Told outs) valid = tt
 
   -- a call of a row without input ports
   pub portless_there : (rows : List Row) (row : Row) → IsValidRow names rows row → row.ports ≡ [] → (phase : Phase) (instance : Instance) (now : ℕ) → ReplyThere (leaf_rule names row phase instance [] facts now).reply

@@ -7,7 +7,7 @@ use Rattle.std.proofs.lemmas.Option.{slice_get_cases}
 use Rattle.spec_world.specs.declared.world.Fact.{Fact}
 use Rattle.spec_world.specs.declared.world.Row.{Row}
 use Rattle.spec_world.specs.declared.world.RowSort.{RowSort}
-use Rattle.spec_world.specs.declared.world.RowSort.TheVariants.{Is, When, Timed, Replay, Gate}
+use Rattle.spec_world.specs.declared.world.RowSort.TheVariants.{Is, When, Timed, Replay, Gate, Sensed, Told}
 use Rattle.spec_world.specs.declared.world.World.{World}
 use Rattle.spec_world.specs.Worlds.{IsComparisonIn, IsValidRow, IsValidSort, IsValidWorld, is_comparison}
 use Rattle.spec_plan.specs.declared.domain.Test.{Test}
@@ -32,6 +32,8 @@ module _ (facts : List Fact) (ports : List (List ℕ)) where
   by_sort (Timed ms fails) is valid = cc is
   by_sort (Replay ms outcomes) is valid = cc is
   by_sort (Gate e) is valid = cc is
+  by_sort Sensed is valid = cc is
+  by_sort (Told outs) is valid = cc is
 
 -- the test of a goal
 pub record Wanted (world : World) (goal : ℕ) : Type 0 where

@@ -3,22 +3,11 @@
 ghost use Rattle.std.specs.Prelude.{◌≡◌, IfOk};
 ghost use Rattle.spec_plan.specs.Modelled.{modelled};
 
-use base_texts::{Items, Name, NoMemory};
+use base_texts::{Items, NoMemory, copy_names};
 use spec_script::Expr;
 use spec_world::{Fact, Out, Row, RowSort, World};
 use std::alloc::Global;
 use tree_copies::copy_expr;
-
-/// Equal names.
-fn copy_names(alloc: Global, names: &[Name]) -> Result<Items<Name>, NoMemory>
-    ensures { IfOk result (λ copied. copied ≡ names.now) }
-{
-    let mut copied = Vec::with_capacity(alloc, names.len())?;
-    for name in names {
-        copied.push(name.copy(alloc)?)?;
-    }
-    Ok(Items::of(copied))
-}
 
 /// Equal outputs.
 fn copy_outs(alloc: Global, outs: &[Out]) -> Result<Items<Out>, NoMemory>
@@ -64,6 +53,10 @@ fn copy_sort(alloc: Global, sort: &RowSort) -> Result<RowSort, NoMemory>
             outcomes: Items::of(Vec::from_slice(alloc, outcomes.list())?),
         }),
         RowSort::Gate(test) => Ok(RowSort::Gate(copy_expr(alloc, test)?)),
+        RowSort::Sensed => Ok(RowSort::Sensed),
+        RowSort::Told { outs } => Ok(RowSort::Told {
+            outs: copy_names(alloc, outs.list())?,
+        }),
     }
 }
 

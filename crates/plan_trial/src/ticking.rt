@@ -52,7 +52,7 @@ fn make_tick<D: Drivers>(
         at: before as u64 * task.pace.period,
         what: What::Tick(1),
     };
-    run_event(task.alloc, runs, &event, drivers, block)?;
+    run_event(task.alloc, runs, event, drivers, block)?;
     let notes = block.notes.list();
     Ok(decide(&runs.facts, task.goals.as_slice(), notes, doubt))
 }

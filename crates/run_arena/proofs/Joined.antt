@@ -1,17 +1,21 @@
 -- The rows of a world can be made ready, and a leaf for which nothing is missing has a place of a driver.
-use Rattle.std.proofs.Common.{◌≡◌, ℕ, ◌+◌, ◌<◌, List, [], ◌∷◌, Bool, true, false, if◌then◌else◌, Option, Some, None, length, subst, arith}
-use Rattle.std.specs.List.{All}
+use Rattle.std.proofs.Common.{◌≡◌, ℕ, ◌+◌, ◌<◌, List, [], ◌∷◌, Bool, true, false, if◌then◌else◌, Option, Some, None, length, refl, subst, arith}
+use Rattle.std.specs.List.{All, IsDistinct}
 use Rattle.std.specs.Option.{option_map}
+use Rattle.std.specs.Str.{bytes_eq}
 use Rattle.std.proofs.lemmas.List.{length-map}
 use Rattle.spec_run.specs.declared.leaf.DriverKind.{DriverKind}
 use Rattle.spec_world.specs.declared.world.Fact.{Fact}
 use Rattle.spec_world.specs.declared.world.Row.{Row}
+use Rattle.spec_world.specs.declared.world.RowSort.{RowSort}
+use Rattle.spec_world.specs.declared.world.RowSort.TheVariants as sort
 use Rattle.spec_world.specs.declared.world.World.{World}
 use Rattle.spec_run.specs.Drivers.{DriverState, kind_of_row, place_of_kind, same_kind}
-use Rattle.spec_world.specs.Worlds.{IsValidWorld}
+use Rattle.spec_world.specs.Worlds.{IsValidSort, IsValidWorld, is_modelled, is_told, outs_told}
 use Rattle.run_driver.proofs.Valid.{can_be_ready}
 use Rattle.run_driver.specs.Places.{CanBeReady}
 use Rattle.spec_run.specs.Joins.{place_by}
+use Rattle.run_arena.specs.Rows.{TellsEachOnce}
 
 abbrev IsBelow : ℕ → Option ℕ → Type 0
 IsBelow n (Some k) = k < n
@@ -33,6 +37,29 @@ place_below (d ∷ ds) kind = let e : 1 + length ds ≡ length (d ∷ ds) = omeg
 -- the place of a driver is less than the number of drivers
 pub place_within : (ds : List DriverState) (kind : DriverKind) (place : ℕ) → place_of_kind ds kind ≡ Some place → place < length ds
 place_within ds kind place is = subst (IsBelow (length ds)) is (place_below ds kind)
+
+-- a row whose leaves are told what they answer is not modelled
+told_not_modelled : (s : RowSort) → is_told s ≡ true → is_modelled s ≡ false
+told_not_modelled sort.Sensed told = refl
+told_not_modelled (sort.Told outs) told = refl
+told_not_modelled _ told = absurd (cc)
+
+no_names_alike : IsDistinct bytes_eq []
+unfolding IsDistinct
+no_names_alike = tt
+
+names_differ : (facts : List Fact) (ports : List (List ℕ)) (s : RowSort) → IsValidSort facts ports s → IsDistinct bytes_eq (outs_told s)
+names_differ facts ports (sort.Told outs) valid = valid.distinct
+names_differ facts ports _ valid = no_names_alike
+
+-- the rows of a world tell each value once
+pub rows_once : (world : World) → IsValidWorld world → All TellsEachOnce world.rows
+rows_once world valid k row within =
+    let is = valid.rows k row within in
+    record {
+      bare = λ told. (is.bare (told_not_modelled _ told)).2;
+      distinct = names_differ world.facts _ _ is.sort;
+    }
 
 -- the rows of a world can be made ready
 pub rows_ready : (world : World) → IsValidWorld world → All (CanBeReady world.facts) world.rows

@@ -40,6 +40,7 @@ same_kinds driver.Condition driver.Condition is = refl
 same_kinds driver.Timed driver.Timed is = refl
 same_kinds driver.Replay driver.Replay is = refl
 same_kinds driver.Gate driver.Gate is = refl
+same_kinds driver.Told driver.Told is = refl
 same_kinds _ _ is = absurd (cc)
 
 abbrev HasKind : List DriverState → DriverKind → Option ℕ → Type 0

@@ -10,19 +10,21 @@ use Rattle.spec_run.specs.declared.status.Status.TheVariants.{Idle}
 use Rattle.spec_tree.specs.declared.term.Guards.{Guards}
 use Rattle.spec_tree.specs.declared.term.Kind.TheVariants.{Leaf, AlwaysSuccess}
 use Rattle.spec_tree.specs.declared.term.Port.{Port}
-use Rattle.spec_world.specs.declared.world.Out.{Out}
 use Rattle.spec_world.specs.declared.world.Row.{Row}
+use Rattle.spec_world.specs.Worlds.{outs_told}
 use Rattle.spec_tree.specs.BuiltIns.{PortRule, ports_of}
 use Rattle.spec_run.specs.Leaf.{rule_of}
 use Rattle.spec_run.specs.Leaves.{row_of}
 use Rattle.spec_run.specs.Sites.{View}
 use Rattle.spec_tree.specs.Trees.{Node as TreeNode}
 use Rattle.base_tables.specs.Runnable.{NodeRuns}
+use Rattle.run_driver.specs.Ready.{ready_told}
 use Rattle.run_driver.specs.Rules.{rule}
 use Rattle.run_arena.specs.declared.nodes.Kept.{Kept}
 use Rattle.run_arena.specs.declared.nodes.Node.{Node}
 use Rattle.run_arena.specs.declared.nodes.ReadyGuards.{ReadyGuards}
 use Rattle.run_arena.specs.declared.nodes.ReadyLeaf.{ReadyLeaf}
+use Rattle.run_arena.specs.Rows.{TellsEachOnce, output_names}
 use Rattle.run_arena.specs.Sources.{IsSourceOf, slot_in_view, source_at}
 use Rattle.spec_run.specs.Joins.{is_leaf}
 
@@ -102,9 +104,11 @@ pub record IsLeafOf (view : View) (ports : List Port) (leaf : ReadyLeaf) (row : 
   pub inputs : leaf.inputs ≡ map (λ name. source_at view ports name) row.ports
   pub few_inputs : length row.ports ≤ 8
   pub read : All (IsSourceOf (length view.slots)) leaf.inputs
-  pub outputs : leaf.outputs ≡ map (λ (out : Out). source_at view ports out.port) row.outs
+  pub outputs : leaf.outputs ≡ map (λ name. source_at view ports name) (output_names row)
   pub few_outputs : length row.outs ≤ 8
   pub written : All (IsSourceOf (length view.slots)) leaf.outputs
+  pub told : ready_told leaf.row.sort ≡ outs_told row.sort
+  pub once : TellsEachOnce row
 
 -- a node of the kind Leaf, and no other, is a leaf with a driver, and follows the row of its ID
 abbrev pub LeafStands : View → TreeNode → Option ReadyLeaf → Type 0

@@ -13,7 +13,7 @@ ghost use Rattle.run_arena.specs.Rows.{IsReadyRow, counted_at};
 ghost use Rattle.run_arena.specs.Stands.{written};
 
 use crate::nodes::ReadyLeaf;
-use crate::ports::{input_sources, output_sources};
+use crate::ports::{name_sources, output_sources};
 use crate::resolving::Setting;
 use crate::rows::FoundRow;
 use base_texts::{Items, NoMemory};
@@ -53,8 +53,8 @@ fn leaf_with(
     ensures driver { IfOk result (λ leaf. leaf.driver ≡ driver) }
     ensures instance { IfOk result (λ leaf. leaf.instance ≡ instance) }
 {
-    let inputs = input_sources(found.row.ports.list(), ports, setting, scope)?;
-    let outputs = output_sources(found.row.outs.list(), ports, setting, scope)?;
+    let inputs = name_sources(found.row.ports.list(), ports, setting, scope)?;
+    let outputs = output_sources(found.row, ports, setting, scope)?;
     Ok(ReadyLeaf {
         row: found.ready.share()?,
         driver,

@@ -35,7 +35,8 @@ pub struct ReadyLeaf {
     pub instance: u32,
     /// What the input ports of the row are given, in the row's order.
     pub inputs: Items<Source>,
-    /// What the ports of the outputs are given, in the row's order.
+    /// What the ports of the outputs are given, in the row's order: of those that the row works out, or of those for
+    /// which values are told.
     pub outputs: Items<Source>,
 }
 

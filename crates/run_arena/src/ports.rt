@@ -2,7 +2,9 @@ ghost use Rattle.std.specs.Prelude.{◌≡◌, length, map, IfOk};
 ghost use Rattle.std.specs.List.{All};
 ghost use Rattle.spec_tree.specs.BuiltIns.{ports_of as rules_of};
 ghost use Rattle.spec_tree.specs.Boards.{slots as cells};
+ghost use Rattle.spec_world.specs.Worlds.{ports_written};
 ghost use Rattle.run_arena.specs.Resolving.{AreNamed, port_keys, view_in};
+ghost use Rattle.run_arena.specs.Rows.{output_names};
 ghost use Rattle.run_arena.specs.Sources.{IsSourceOf, source_at as source_in};
 
 use crate::resolving::{Setting, source_at};
@@ -10,7 +12,7 @@ use crate::source::Source;
 use base_tables::{PortRule, ports_of};
 use base_texts::{Name, NoMemory};
 use spec_tree::{Kind, Port};
-use spec_world::Out;
+use spec_world::{Out, Row, RowSort};
 
 /// What the ports of these rules are given, in order, or want of memory.
 fn rule_sources(
@@ -48,7 +50,7 @@ pub(crate) fn kind_sources(
 }
 
 /// What the ports of these names are given, in order, or want of memory.
-pub(crate) fn input_sources(
+pub(crate) fn name_sources(
     names: &[Name],
     ports: &[Port],
     setting: &Setting,
@@ -67,7 +69,7 @@ pub(crate) fn input_sources(
 }
 
 /// What the ports of these outputs are given, in order, or want of memory.
-pub(crate) fn output_sources(
+fn out_sources(
     outs: &[Out],
     ports: &[Port],
     setting: &Setting,
@@ -75,7 +77,7 @@ pub(crate) fn output_sources(
 ) -> Result<Vec<Source>, NoMemory>
     requires { AreNamed setting.now.tree.now scope (port_keys ports.now) }
     ensures sources { IfOk result (λ sources. sources.items ≡
-        map (λ out. source_in (view_in setting.now.tree.now setting.now.world.now scope) ports.now out.port) outs.now) }
+        map (λ name. source_in (view_in setting.now.tree.now setting.now.world.now scope) ports.now name) (ports_written outs.now)) }
     ensures slots { IfOk result (λ sources. All (IsSourceOf (length (cells setting.now.tree.now))) sources.items) }
 {
     let mut sources = Vec::new(setting.alloc);
@@ -83,4 +85,28 @@ pub(crate) fn output_sources(
         sources.push(source_at(ports, out.port.list(), setting, scope)?)?;
     }
     Ok(sources)
+}
+
+/// What the ports of a row's outputs are given, in order, or want of memory: of those for which values are told, or of
+/// those that the row works out.
+pub(crate) fn output_sources(
+    row: &Row,
+    ports: &[Port],
+    setting: &Setting,
+    scope: u32,
+) -> Result<Vec<Source>, NoMemory>
+    requires { AreNamed setting.now.tree.now scope (port_keys ports.now) }
+    ensures sources { IfOk result (λ sources. sources.items ≡
+        map (λ name. source_in (view_in setting.now.tree.now setting.now.world.now scope) ports.now name) (output_names row.now)) }
+    ensures slots { IfOk result (λ sources. All (IsSourceOf (length (cells setting.now.tree.now))) sources.items) }
+{
+    match &row.sort {
+        RowSort::Told { outs } => name_sources(outs.list(), ports, setting, scope),
+        RowSort::Is { .. }
+        | RowSort::When(_)
+        | RowSort::Timed { .. }
+        | RowSort::Replay { .. }
+        | RowSort::Gate(_)
+        | RowSort::Sensed => out_sources(row.outs.list(), ports, setting, scope),
+    }
 }

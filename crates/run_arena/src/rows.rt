@@ -5,7 +5,7 @@ ghost use Rattle.indexmap.specs.IndexMap.{get};
 ghost use Rattle.std.specs.List.{All};
 ghost use Rattle.spec_world.specs.Worlds.{IsValidWorld};
 ghost use Rattle.run_driver.specs.Places.{CanBeReady};
-ghost use Rattle.run_arena.specs.Rows.{AreReady, Finds};
+ghost use Rattle.run_arena.specs.Rows.{AreReady, Finds, TellsEachOnce};
 
 use base_texts::{Items, Name, NoMemory, Shared};
 use indexmap::IndexMap;
@@ -115,7 +115,8 @@ fn ready_rows(
     rows: &[Row],
     facts: &[Fact],
 ) -> Result<Items<Shared<ReadyRow>>, NoMemory>
-    requires { All (CanBeReady facts.now) rows.now }
+    requires can { All (CanBeReady facts.now) rows.now }
+    requires once { All TellsEachOnce rows.now }
     ensures { IfOk result (λ all. AreReady facts.now rows.now all) }
 {
     let mut all = Vec::with_capacity(alloc, rows.len())?;

@@ -67,6 +67,8 @@ module _ (places : List ℕ → ℕ) (inputs : List Seen) (facts : List ℤ) whe
         lasting since ms now instance facts (same_decided (outcome_at outcomes instance.completions) (completed instance) i)
     same_answer (sort.Gate test) = λ i.
         judged (same_test test i) instance facts (λ b. if b then same_completion (released instance) i else replied Running (held since instance) facts)
+    same_answer sort.Sensed = refl
+    same_answer (sort.Told outs) = refl
 
 pub padding_is_nothing : (names : List Fact) (row : Row) (phase : Phase) (instance : Instance) (inputs : List Seen) (facts : List ℤ) (now : ℕ) →
     leaf_rule names row phase instance (padded inputs) facts now ≡ leaf_rule names row phase instance inputs facts now

@@ -80,3 +80,5 @@ same_kind_of_row places (sort.When test) = refl
 same_kind_of_row places (sort.Timed ms fails) = refl
 same_kind_of_row places (sort.Replay ms outcomes) = refl
 same_kind_of_row places (sort.Gate test) = refl
+same_kind_of_row places sort.Sensed = refl
+same_kind_of_row places (sort.Told outs) = refl

@@ -15,6 +15,8 @@ sort_over facts ports (sort.When test) valid = valid
 sort_over facts ports (sort.Timed ms fails) valid = valid.1
 sort_over facts ports (sort.Replay ms outcomes) valid = tt
 sort_over facts ports (sort.Gate test) valid = valid
+sort_over facts ports sort.Sensed valid = tt
+sort_over facts ports (sort.Told outs) valid = tt
 
 pub can_be_ready : (facts : List Fact) (rows : List Row) (row : Row) → length facts ≤ 1024 → IsValidRow facts rows row → CanBeReady facts row
 can_be_ready facts rows row few valid = record {

@@ -22,6 +22,8 @@ IsSortOver ports facts (sort.When test) = IsExprOver ports (names_of_facts facts
 IsSortOver ports facts (sort.Timed ms fails) = IfSome fails (IsExprOver ports (names_of_facts facts))
 IsSortOver ports facts (sort.Replay ms outcomes) = Unit {0}
 IsSortOver ports facts (sort.Gate test) = IsExprOver ports (names_of_facts facts) test
+IsSortOver ports facts sort.Sensed = Unit {0}
+IsSortOver ports facts (sort.Told outs) = Unit {0}
 
 -- what must hold of a row that is made ready; it holds of each valid row of a world with these facts
 pub record CanBeReady (facts : List Fact) (row : Row) : Type 0 where

@@ -1,8 +1,8 @@
 -- Rows made ready, as the rules that they stand for, and the facts that they look at.
-use Rattle.std.specs.Prelude.{ℕ, ◌+◌, Option, Some, None, option_map}
+use Rattle.std.specs.Prelude.{ℕ, ◌+◌, List, [], Option, Some, None, option_map}
 use Rattle.spec_script.specs.Entries.{look_of}
 use Rattle.script_code.specs.Codes.{formula}
-use Rattle.spec_run.specs.Leaf.{Number, Test, Way, Tests, Lasts, Replays, Waits, sights, as_number, truth_of, comparison}
+use Rattle.spec_run.specs.Leaf.{Number, Test, Way, Tests, Lasts, Replays, Waits, Heeds, Obeys, sights, as_number, truth_of, comparison}
 use Rattle.run_driver.specs.declared.expression.ReadyExpr.{ReadyExpr}
 use Rattle.run_driver.specs.declared.sort.ReadySort.{ReadySort}
 use Rattle.run_driver.specs.declared.sort.ReadySort.TheVariants as sort
@@ -22,6 +22,13 @@ ready_way (sort.When test) = Tests (ready_test test)
 ready_way (sort.Timed ms fails) = Lasts ms (option_map ready_test fails)
 ready_way (sort.Replay ms outcomes) = Replays ms outcomes
 ready_way (sort.Gate test) = Waits (ready_test test)
+ready_way sort.Sensed = Heeds
+ready_way (sort.Told outs) = Obeys
+
+-- the outputs for which a leaf may be told a value
+abbrev pub ready_told : ReadySort → List (List ℕ)
+ready_told (sort.Told outs) = outs
+ready_told _ = []
 
 -- how many places an expression looks at: each of its places is less than this
 abbrev pub expr_reach : ReadyExpr → ℕ
@@ -37,3 +44,5 @@ sort_reach (sort.When test) = expr_reach test
 sort_reach (sort.Timed ms fails) = fails_reach fails
 sort_reach (sort.Replay ms outcomes) = 0
 sort_reach (sort.Gate test) = expr_reach test
+sort_reach sort.Sensed = 0
+sort_reach (sort.Told outs) = 0

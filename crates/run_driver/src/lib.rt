@@ -7,6 +7,7 @@ mod driver;
 mod effects;
 mod expression;
 mod facts;
+mod hold;
 pub mod laws;
 mod looks;
 mod naming;
@@ -20,8 +21,11 @@ pub use call::{Call, CallPhase};
 pub use driver::Driver;
 pub use expression::{Inputs, ReadyExpr};
 pub use facts::{FactTable, facts_of};
+pub use hold::Hold;
 pub use outs::Outs;
 pub use readying::{kind_of, ready};
-pub use roster::{Drivers, call_at, find_kind, halt_at, hold_nothing, prepare_all, totals_of};
+pub use roster::{
+    Drivers, call_at, find_kind, halt_at, hold_nothing, prepare_all, tell_at, totals_of,
+};
 pub use row::ReadyRow;
 pub use sort::ReadySort;

@@ -3,16 +3,16 @@ ghost use Rattle.std.specs.List.{All};
 ghost use Rattle.spec_run.specs.Drivers.{kind_of_row};
 ghost use Rattle.base_tables.specs.DriverCalls.{kind_of_way};
 ghost use Rattle.spec_run.specs.Leaf.{number_of, place_of, rule_of, test_of, way_of};
-ghost use Rattle.spec_world.specs.Worlds.{IsExprOver, names_of_facts};
+ghost use Rattle.spec_world.specs.Worlds.{IsExprOver, names_of_facts, outs_told};
 ghost use Rattle.run_driver.specs.Places.{CanBeReady, IsSortOver};
-ghost use Rattle.run_driver.specs.Ready.{expr_reach, fails_reach, ready_number, ready_test, ready_way, sort_reach};
+ghost use Rattle.run_driver.specs.Ready.{expr_reach, fails_reach, ready_number, ready_test, ready_told, ready_way, sort_reach};
 ghost use Rattle.run_driver.specs.Rules.{rule};
 
 use crate::expression::ReadyExpr;
 use crate::naming::{Names, places_of};
 use crate::row::ReadyRow;
 use crate::sort::ReadySort;
-use base_texts::{Items, NoMemory};
+use base_texts::{Items, NoMemory, copy_names};
 use script_code::compile_expr;
 use spec_run::DriverKind;
 use spec_script::Expr;
@@ -51,6 +51,7 @@ fn ready_fails(
 fn ready_sort(alloc: Global, sort: &RowSort, names: &Names) -> Result<ReadySort, NoMemory>
     requires { IsSortOver names.now.ports.now names.now.facts.now sort.now }
     ensures way { IfOk result (λ s. ready_way s ≡ way_of (place_of names.now.ports.now names.now.facts.now) sort.now) }
+    ensures told { IfOk result (λ s. ready_told s ≡ outs_told sort.now) }
     ensures reach { IfOk result (λ s. sort_reach s ≤ 8 + length names.now.facts.now) }
 {
     match sort {
@@ -72,6 +73,10 @@ fn ready_sort(alloc: Global, sort: &RowSort, names: &Names) -> Result<ReadySort,
             })
         }
         RowSort::Gate(test) => Ok(ReadySort::Gate(ready_expr(alloc, test, names)?)),
+        RowSort::Sensed => Ok(ReadySort::Sensed),
+        RowSort::Told { outs } => Ok(ReadySort::Told {
+            outs: copy_names(alloc, outs.list())?,
+        }),
     }
 }
 
@@ -99,6 +104,8 @@ pub fn kind_of(row: &Row) -> DriverKind
         RowSort::Timed { .. } => DriverKind::Timed,
         RowSort::Replay { .. } => DriverKind::Replay,
         RowSort::Gate(_) => DriverKind::Gate,
+        RowSort::Sensed => DriverKind::Told,
+        RowSort::Told { .. } => DriverKind::Told,
     }
 }
 
@@ -108,6 +115,7 @@ pub fn ready(alloc: Global, row: &Row, facts: &[Fact]) -> Result<ReadyRow, NoMem
     requires { CanBeReady facts.now row.now }
     ensures rule { IfOk result (λ r. rule r ≡ rule_of facts.now row.now) }
     ensures kind { IfOk result (λ r. kind_of_way (rule r).way ≡ kind_of_row row.now) }
+    ensures told { IfOk result (λ r. ready_told r.sort ≡ outs_told row.now.sort) }
     ensures facts { IfOk result (λ r. r.facts ≡ length facts.now) }
 {
     let names = Names {

@@ -1,6 +1,7 @@
 ghost use Rattle.std.specs.Prelude.{◌≡◌, ◌<◌, ◌≤◌, ◌↔◌, ℕ, List, length, map, take, IsSome, IsTrue, OnOk, OnErr};
 ghost use Rattle.spec_run.specs.Drivers.{DriverState, HoldsNothing, NothingHeld, driver_at, instance_of, place_of_kind, prepared, roster_prepared};
-ghost use Rattle.base_tables.specs.DriverCalls.{IsThere, after_halted, held_count, instance_at, kind_of_way, roster_halted, total_held};
+ghost use Rattle.base_tables.specs.DriverCalls.{IsThere, after_halted, after_told, held_count, instance_at, kind_of_way, roster_halted, roster_told, total_held};
+ghost use Rattle.spec_run.specs.declared.leaf.DriverKind.TheVariants as kinds;
 ghost use Rattle.base_tables.specs.Outputs.{outputs_after};
 ghost use Rattle.run_driver.specs.Calls.{IsAskedIn, answer_at, call_answer, call_left, roster_left};
 ghost use Rattle.run_driver.specs.Rules.{rule};
@@ -11,6 +12,7 @@ use crate::facts::FactTable;
 use crate::outs::Outs;
 use base_texts::NoMemory;
 use spec_run::{DriverKind, Reply, Totals};
+use spec_world::Telling;
 
 /// The drivers of a run, each at its place. No call but `prepare` allocates memory, and none
 /// changes how many drivers there are or their order.
@@ -61,6 +63,12 @@ pub trait Drivers {
         requires there { IsThere (states self.old) place instance }
         requires held { IsSome (instance_at (states self.old) place instance).since }
         ensures { states self.new ≡ roster_halted (states self.old) place instance };
+
+    /// Tells one of the instances of the driver at a place.
+    fn tell(&mut self, place: usize, instance: u32, telling: Telling)
+        requires there { IsThere (states self.old) place instance }
+        requires kind { (driver_at (states self.old) place).kind ≡ kinds.Told }
+        ensures { states self.new ≡ roster_told (states self.old) place instance telling };
 }
 
 /// The kind of one driver.
@@ -119,6 +127,15 @@ fn halt_one(driver: &mut Box<dyn Driver>, instance: u32)
     ensures { state driver.new ≡ after_halted (state driver.old) instance }
 {
     driver.halted(instance)
+}
+
+/// Tells an instance of one driver.
+fn tell_one(driver: &mut Box<dyn Driver>, instance: u32, telling: Telling)
+    requires there { instance < length (state driver.old).table }
+    requires kind { (state driver.old).kind ≡ kinds.Told }
+    ensures { state driver.new ≡ after_told (state driver.old) instance telling }
+{
+    driver.tell(instance, telling)
 }
 
 /// The place of the first of these drivers of a kind; none where there is no such driver.
@@ -195,4 +212,13 @@ pub fn halt_at(roster: &mut Vec<Box<dyn Driver>>, place: usize, instance: u32)
     ensures { map (λ b. state b) roster.new.items ≡ roster_halted (map (λ b. state b) roster.old.items) place instance }
 {
     halt_one(&mut roster[place], instance)
+}
+
+/// Tells one of the instances of the driver at a place.
+pub fn tell_at(roster: &mut Vec<Box<dyn Driver>>, place: usize, instance: u32, telling: Telling)
+    requires there { IsThere (map (λ b. state b) roster.old.items) place instance }
+    requires kind { (driver_at (map (λ b. state b) roster.old.items) place).kind ≡ kinds.Told }
+    ensures { map (λ b. state b) roster.new.items ≡ roster_told (map (λ b. state b) roster.old.items) place instance telling }
+{
+    tell_one(&mut roster[place], instance, telling)
 }

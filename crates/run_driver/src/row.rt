@@ -5,10 +5,11 @@ ghost use Rattle.run_driver.specs.Ready.{expr_reach, sort_reach};
 use crate::effects::apply;
 use crate::expression::{Inputs, ReadyExpr};
 use crate::facts::FactTable;
+use crate::hold::Hold;
 use crate::outs::Outs;
 use crate::sort::ReadySort;
 use base_texts::Items;
-use spec_run::{Cause, Instance, Reply};
+use spec_run::{Cause, Reply};
 use spec_world::Set;
 
 /// A row of a world, made ready for the calls of drivers. Contracts see its `rule`.
@@ -28,9 +29,10 @@ pub struct ReadyRow {
 }
 
 impl ReadyRow {
-    ghost use Rattle.std.specs.Prelude.{◌≡◌, Ok, Err, IfErr, OnErr, OnOk};
+    ghost use Rattle.std.specs.Prelude.{◌≡◌, [], Ok, Err, IfErr, OnErr, OnOk};
+    ghost use Rattle.std.specs.Result.{result_map_both};
     ghost use Rattle.spec_run.specs.Leaf.{completion, worked_out, outputs_of};
-    ghost use Rattle.base_tables.specs.Outputs.{outputs_after};
+    ghost use Rattle.base_tables.specs.Outputs.{numbered, outputs_after};
     ghost use Rattle.run_driver.specs.Rules.{rule};
 
     /// The outputs over these inputs and facts, in order, or the first fault. It is not inlined,
@@ -38,7 +40,7 @@ impl ReadyRow {
     #[inline(never)]
     fn outputs(&self, inputs: &Inputs, facts: &FactTable) -> Result<Outs, Cause>
         requires { length facts.now ≡ self.now.facts }
-        ensures { result ≡ outputs_of (rule self.now).outs inputs.now facts.now }
+        ensures { result ≡ result_map_both numbered (λ cause. cause) (outputs_of (rule self.now).outs inputs.now facts.now) }
     {
         let mut outs = Outs::new();
         for e in self.outs.list() {
@@ -52,7 +54,8 @@ impl ReadyRow {
     #[inline(always)]
     fn work_out(&self, inputs: &Inputs, facts: &mut FactTable, outs: &mut Outs) -> Result<(), Cause>
         requires { length facts.old ≡ self.now.facts }
-        ensures made { OnOk result (worked_out (rule self.now) inputs.now facts.old ≡ Ok (outs.new, facts.new)) }
+        ensures made { OnOk result (worked_out (rule self.now) inputs.now facts.old ≡ Ok (outs.new.numbers, facts.new)) }
+        ensures untold { OnOk result (outs.new.told ≡ []) }
         ensures fault { IfErr result (λ cause. worked_out (rule self.now) inputs.now facts.old ≡ Err cause) }
         ensures facts { OnErr result (facts.new ≡ facts.old) }
         ensures outs { OnErr result (outs.new ≡ outs.old) }
@@ -76,12 +79,12 @@ impl ReadyRow {
     /// a fault, and then nothing is changed.
     pub fn complete(
         &self,
-        before: Instance,
-        after: Instance,
+        before: Hold,
+        after: Hold,
         inputs: &Inputs,
         facts: &mut FactTable,
         outs: &mut Outs,
-    ) -> (Reply, Instance)
+    ) -> (Reply, Hold)
         requires { length facts.old ≡ self.now.facts }
         ensures reply { result.0 ≡ (completion (rule self.now) before after inputs.now facts.old).reply }
         ensures instance { result.1 ≡ (completion (rule self.now) before after inputs.now facts.old).instance }

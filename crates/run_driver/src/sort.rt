@@ -1,5 +1,5 @@
 use crate::expression::ReadyExpr;
-use base_texts::Items;
+use base_texts::{Items, Name};
 use spec_script::Cmp;
 
 /// How a row answers, its expressions made ready.
@@ -15,4 +15,8 @@ pub enum ReadySort {
     Replay { ms: u64, outcomes: Items<bool> },
     /// An action that is held until the expression is not 0.
     Gate(ReadyExpr),
+    /// A condition that answers what it was told last.
+    Sensed,
+    /// An action that is held until it is told how it ended; the outputs for which it may be told a value.
+    Told { outs: Items<Name> },
 }

@@ -8,11 +8,11 @@ use Rattle.spec_tree.specs.declared.term.Term.{Term-F}
 use Rattle.spec_run.specs.Done.{Done, State, follow}
 use Rattle.spec_run.specs.Sites.{View}
 use Rattle.base_tables.specs.Sound.{Leaves, held_at}
-use Rattle.run_laws.proofs.Parts.{follow_leaves}
+use Rattle.run_laws.proofs.Parts.{follow_leaves, held_same}
 use Rattle.run_laws.proofs.Children.{Family, SoundAll, all_move}
 use Rattle.run_laws.proofs.Beginnings.{site_here}
 use Rattle.run_laws.proofs.Scripts.{Runs}
-use Rattle.run_laws.proofs.Whole.{Fields, fields_move, held_same, size_here}
+use Rattle.run_laws.proofs.Whole.{Fields, fields_move, size_here}
 
 -- the instances and the moment are as they were
 pub record Still (s s1 : State) : Type 0 where
@@ -28,10 +28,10 @@ module _ {s s1 : State} (still : Still s s1) where
 
   module _ (F : Family) (node : Term-F F.Child) (view : View) (uid : ℕ) where
     pub children_still : (fault : Option ℕ) (ms : List Memory) → SoundAll F view.rows node.children None (uid + 1) ms s → SoundAll F view.rows node.children fault (uid + 1) ms s1
-    children_still fault ms all = all_move F view.rows node.children fault (uid + 1) ms s s1 all (λ p a b. still_there p) (omega (arith, still.moment))
+    children_still fault ms all = all_move F view.rows node.children fault (uid + 1) ms s s1 all (λ p a b. still_held p) (omega (arith, still.moment))
 
     pub fields_still : (fault : Option ℕ) (st : Status) (memo : Memo) (ms : List Memory) → Fields F node view uid None st memo ms s → Fields F node view uid fault st memo ms s1
-    fields_still fault st memo ms fields = fields_move F node view uid fault st memo ms s s1 fields (λ p a b. still_there p) (omega (arith, still.moment))
+    fields_still fault st memo ms fields = fields_move F node view uid fault st memo ms s s1 fields (λ p a b. still_held p) (omega (arith, still.moment))
 
 -- scripts of a node, then what the node does; a fault leaves what was there before
 pub after_scripts : {A B M : Type 0} (F : Family) (node : Term-F F.Child) (view : View) (uid : ℕ) (rules : Option ℕ → M → State → Type 0) (fits : B → M → State → Type 0) (script_fits : A → Type 0)

@@ -1,5 +1,6 @@
 -- Each event keeps what holds between events, even with a fault.
-use Rattle.std.proofs.Common.{◌≡◌, ℕ, ℤ, ◌+◌, ◌-◌, ◌≤◌, List, length, Option, Some, None, option_map, slice_get, slice_set, Result, Ok, Err, refl, sym, ap, subst, ◌∙◌, arith}
+use Rattle.std.proofs.Common.{◌≡◌, ℕ, ℤ, ◌+◌, ◌-◌, ◌≤◌, List, length, Option, Some, None, slice_get, slice_index_or, slice_set, Result, Ok, Err, refl, sym, ap, subst, ◌∙◌, arith}
+use Rattle.std.proofs.lemmas.List.{length-set}
 use Rattle.spec_run.specs.declared.block.Header.{Header}
 use Rattle.spec_run.specs.declared.block.Header.TheVariants as header
 use Rattle.spec_run.specs.declared.fault.NodeFault.{NodeFault}
@@ -11,11 +12,13 @@ use Rattle.spec_run.specs.declared.status.Status.TheVariants as status
 use Rattle.spec_tree.specs.declared.term.Term.{Term}
 use Rattle.spec_tree.specs.declared.term.Tree.{Tree}
 use Rattle.spec_world.specs.declared.world.Row.{Row}
+use Rattle.spec_world.specs.declared.world.Telling.{Telling}
 use Rattle.spec_world.specs.declared.world.What.{What}
-use Rattle.spec_world.specs.declared.world.What.TheVariants.{Tick, Halt, Change}
+use Rattle.spec_world.specs.declared.world.What.TheVariants.{Tick, Halt, Change, Tell}
 use Rattle.spec_world.specs.declared.world.World.{World}
-use Rattle.spec_run.specs.Done.{Done, State}
-use Rattle.spec_run.specs.Run.{RunState, Runner, finish, later, quenched, quenched_runner, reset_step, root_reset, root_told, root_view, runner_at, runner_step, settled, state_of, step_by, tick_step, ticked, told, with_runner}
+use Rattle.spec_run.specs.Done.{Call, Done, State}
+use Rattle.spec_run.specs.Leaf.{fresh}
+use Rattle.spec_run.specs.Run.{RunState, Runner, called, finish, later, quenched, quenched_runner, reset_step, root_reset, root_told, root_view, runner_at, runner_step, settled, state_of, step_by, tell_call, tell_step, tick_step, ticked, told, with_runner}
 use Rattle.base_tables.specs.Shapes.{is_running}
 use Rattle.spec_run.specs.Sites.{View, remembered}
 use Rattle.base_tables.specs.Sound.{Leaves, Left, RunSteady, Sound, Steady}
@@ -23,6 +26,7 @@ use Rattle.spec_run.specs.Visit.{meaning, status_of}
 use Rattle.run_laws.proofs.Parts.{follow_leaves, left_into, within_same}
 use Rattle.run_laws.proofs.Children.{status_in, status_kept}
 use Rattle.run_laws.proofs.Entries.{mapped_entry, set_entry}
+use Rattle.run_laws.proofs.Instances.{held_by_since, since_in, told_since}
 use Rattle.run_laws.proofs.Keeping.{term_keeps}
 use Rattle.run_laws.proofs.Quenches.{quench_steady}
 
@@ -74,17 +78,21 @@ root_reset_leaves tree view m s sound =
 
 -- ---- One runner
 
-since_at : State → ℕ → Option (Option ℕ)
-since_at s p = option_map (λ (i : Instance). i.since) (slice_get s.instances p)
-
--- what holds between events stays where the instances do and no time goes back
-pub steady_moves : (t : Term) (rows : List Row) (m : Memory) (s s1 : State) → s1.instances ≡ s.instances → s.moment ≤ s1.moment → Steady t rows m s → Steady t rows m s1
-steady_moves t rows m s s1 same later steady = record {
-  sound = (term_keeps t).moves rows None 1 m s s1 steady.sound (λ p a b. ap (λ xs. slice_get xs p) same) later;
+-- what holds between events stays where the instances are held since the times since which they were, and no time goes
+-- back
+steady_since : (t : Term) (rows : List Row) (m : Memory) (s s1 : State) → ((p : ℕ) → since_in s1.instances p ≡ since_in s.instances p) → length s1.instances ≡ length s.instances → s.moment ≤ s1.moment →
+    Steady t rows m s → Steady t rows m s1
+steady_since t rows m s s1 same many later steady = record {
+  sound = (term_keeps t).moves rows None 1 m s s1 steady.sound (λ p a b. held_by_since s1.instances s.instances p (same p)) later;
   root = steady.root;
-  room = subst (λ xs. 1 + (meaning t).size ≤ length xs) (sym same) steady.room;
-  dated = λ p since e. omega (arith, later, steady.dated p since (ap (λ xs. option_map (λ (i : Instance). i.since) (slice_get xs p)) (sym same) ∙ e));
+  room = omega (arith, many, steady.room);
+  dated = λ p since e. omega (arith, later, steady.dated p since (sym (same p) ∙ e));
 }
+
+-- .. and so where the instances stay
+pub steady_moves : (t : Term) (rows : List Row) (m : Memory) (s s1 : State) → s1.instances ≡ s.instances → s.moment ≤ s1.moment → Steady t rows m s → Steady t rows m s1
+steady_moves t rows m s s1 same later steady =
+    steady_since t rows m s s1 (λ p. ap (λ (xs : List Instance). since_in xs p) same) (ap (λ (xs : List Instance). length xs) same) later steady
 
 -- ---- A run
 
@@ -142,11 +150,23 @@ module _ (tree : Tree) (world : World) (run : RunState) (steady : RunSteady tree
       runner_steady tree world.rows run steady at ahead h runner r is (root_reset tree (root_view tree world) r.memory (state_of r run.facts at))
       (root_reset_leaves tree (root_view tree world) r.memory (state_of r run.facts at) (runner_later tree world.rows run steady at ahead (runner - 1) r run.facts is).sound)
 
+  -- a leaf that is told something is held as it was
+  tell_steady : (runner uid : ℕ) (telling : Telling) (o : Option Runner) → runner_at run runner ≡ o → RunSteady tree.term world.rows (tell_step o runner uid telling at run).state
+  tell_steady runner uid telling None is = later_steady tree world.rows run steady at ahead run.facts
+  tell_steady runner uid telling (Some r) is =
+      let c : Call = tell_call uid telling (slice_index_or r.instances uid fresh) in
+      let here : Steady tree.term world.rows r.memory (state_of (called r c) run.facts at) =
+      steady_since tree.term world.rows r.memory (state_of r run.facts at) (state_of (called r c) run.facts at) (λ p. told_since r.instances uid p telling) (length-set r.instances uid c.left) (omega arith)
+      (runner_later tree world.rows run steady at ahead (runner - 1) r run.facts is)
+      in
+      λ k x found. set_entry (λ (y : Runner). Steady tree.term world.rows y.memory (state_of y run.facts at)) run.runners (runner - 1) k (called r c) x here (λ y old. runner_later tree world.rows run steady at ahead k y run.facts old) found
+
   -- an event
   pub step_steady : (what : What) → RunSteady tree.term world.rows (step_by what tree world at run).state
   step_steady (Tick runner) = tick_steady runner (runner_at run runner) refl
   step_steady (Halt runner) = reset_steady (header.Halt runner at) runner (runner_at run runner) refl
   step_steady (Change fact value) = later_steady tree world.rows run steady at ahead (slice_set run.facts fact value)
+  step_steady (Tell runner uid telling) = tell_steady runner uid telling (runner_at run runner) refl
 
 -- the finish of a runner
 pub finish_steady : (tree : Tree) (world : World) (runner : ℕ) (run : RunState) → RunSteady tree.term world.rows run → RunSteady tree.term world.rows (finish tree world runner run).state

@@ -22,7 +22,7 @@ use Rattle.spec_run.specs.Sites.{Site, View, children_of, remembered, view_below
 use Rattle.base_tables.specs.Sound.{Leaves, Within, held_at, is_held, statuses}
 use Rattle.spec_run.specs.Steps.{resets}
 use Rattle.spec_run.specs.Visit.{cleared, halt, halt_state, halted, reset_by}
-use Rattle.run_laws.proofs.Parts.{follow_leaves, left_into, within_both, within_same}
+use Rattle.run_laws.proofs.Parts.{follow_leaves, held_same, left_into, within_both, within_same}
 use Rattle.run_laws.proofs.Children.{Family, SoundAll, all_move, size_all, status_in, status_kept}
 use Rattle.run_laws.proofs.Resting.{Rested, span_leaves}
 use Rattle.run_laws.proofs.Beginnings.{site_here}
@@ -72,7 +72,7 @@ module _ (F : Family) (node : Term-F F.Child) (view : View) (uid : ℕ) where
 
   -- the children stay as they are where only the node's own instance has changed
   beside : (fault : Option ℕ) (ms : List Memory) (s s1 : State) → All None ms s → Within uid 1 s s1 → All fault ms s1
-  beside fault ms s s1 all w = all_move F view.rows node.children fault (uid + 1) ms s s1 all (λ p a b. w.above p a) (omega (arith, w.moment))
+  beside fault ms s s1 all w = all_move F view.rows node.children fault (uid + 1) ms s s1 all (λ p a b. held_same s s1 p (w.above p a)) (omega (arith, w.moment))
 
   -- the memory that a halt makes
   rests_idle : (memo : Memo) (ms : List Memory) (s : State) → RestingShape memo node.kind (statuses ms) → held_at s uid ≡ Some false → All None ms s → Holds None (remembered status.Idle memo ms) s

@@ -1,16 +1,17 @@
 -- One instance is set, and the others stay.
-use Rattle.std.proofs.Common.{◌≡◌, ◌≢◌, ℕ, zero, suc, ◌≤◌, List, [], ◌∷◌, Bool, Option, Some, refl, sym, ap, ◌∙◌, arith, option_map, is_some, length, slice_get, slice_index_or, slice_set}
+use Rattle.std.proofs.Common.{◌≡◌, ◌≢◌, ℕ, zero, suc, ◌≤◌, List, [], ◌∷◌, Bool, Option, Some, None, refl, sym, ap, ◌∙◌, arith, option_map, is_some, length, slice_get, slice_index_or, slice_set}
 use Rattle.std.proofs.lemmas.List.{length-set}
 use Rattle.spec_run.specs.declared.leaf.Instance.{Instance}
+use Rattle.spec_world.specs.declared.world.Telling.{Telling}
 use Rattle.spec_run.specs.Done.{State}
-use Rattle.spec_run.specs.Leaf.{fresh}
+use Rattle.spec_run.specs.Leaf.{fresh, told}
 use Rattle.spec_run.specs.Leaves.{instance_at}
 use Rattle.base_tables.specs.Sound.{Dated, Within, held_at}
 
-abbrev held_in : List Instance → ℕ → Option Bool
+abbrev pub held_in : List Instance → ℕ → Option Bool
 held_in instances uid = option_map (λ (i : Instance). is_some i.since) (slice_get instances uid)
 
-abbrev since_in : List Instance → ℕ → Option (Option ℕ)
+abbrev pub since_in : List Instance → ℕ → Option (Option ℕ)
 since_in instances uid = option_map (λ (i : Instance). i.since) (slice_get instances uid)
 
 same_place : (xs : List Instance) (uid : ℕ) (w : Instance) (b : Bool) → held_in xs uid ≡ Some b → held_in (slice_set xs uid w) uid ≡ Some (is_some w.since)
@@ -37,6 +38,22 @@ since_of : (xs : List Instance) (uid t : ℕ) → (slice_index_or xs uid fresh).
 since_of [] uid t e = cc
 since_of (x ∷ xs) zero t e = ap Some e
 since_of (x ∷ xs) (suc uid) t e = since_of xs uid t e
+
+-- instances that are held since the same times are held where they were
+pub held_by_since : (xs ys : List Instance) (p : ℕ) → since_in xs p ≡ since_in ys p → held_in xs p ≡ held_in ys p
+held_by_since xs ys p same = held_of (slice_get xs p) ∙ ap (λ (o : Option (Option ℕ)). option_map (λ (since : Option ℕ). is_some since) o) same ∙ sym (held_of (slice_get ys p))
+  where
+    held_of : (o : Option Instance) → option_map (λ (i : Instance). is_some i.since) o ≡ option_map (λ (since : Option ℕ). is_some since) (option_map (λ (i : Instance). i.since) o)
+    held_of None = refl
+    held_of (Some i) = refl
+
+-- where a leaf is told something, all instances are held since the times since which they were
+pub told_since : (xs : List Instance) (uid p : ℕ) (t : Telling) → since_in (slice_set xs uid (told t (slice_index_or xs uid fresh))) p ≡ since_in xs p
+told_since [] uid p t = refl
+told_since (x ∷ xs) zero zero t = refl
+told_since (x ∷ xs) zero (suc p) t = refl
+told_since (x ∷ xs) (suc uid) zero t = refl
+told_since (x ∷ xs) (suc uid) (suc p) t = told_since xs uid p t
 
 -- the instance of a node is held since a time that is not later than now
 pub instance_dated : (s : State) (uid t : ℕ) → Dated s → (instance_at s uid).since ≡ Some t → t ≤ s.moment

@@ -22,10 +22,12 @@ use Rattle.spec_tree.specs.declared.term.PortValue.TheVariants.{Lit, Key}
 use Rattle.spec_tree.specs.declared.term.Term.{Term-F}
 use Rattle.spec_world.specs.declared.world.Out.{Out}
 use Rattle.spec_world.specs.declared.world.Row.{Row}
+use Rattle.spec_world.specs.declared.world.ToldOut.{ToldOut}
+use Rattle.spec_world.specs.Worlds.{outs_told}
 use Rattle.spec_run.specs.Done.{State}
 use Rattle.spec_run.specs.Leaf.{Answered, fresh, leaf_rule, rule_of, start_of}
 use Rattle.base_tables.specs.Outputs.{since_after}
-use Rattle.spec_run.specs.Leaves.{inputs_of, instance_at, leaf_call, phase_of, reply_answer, reply_board, with_output, with_outputs}
+use Rattle.spec_run.specs.Leaves.{inputs_of, instance_at, leaf_call, phase_of, reply_answer, reply_board, told_for, with_output, with_outputs, with_told, with_value}
 use Rattle.spec_run.specs.Ports.{given_at}
 use Rattle.base_tables.specs.Shapes.{AllIdle, Lasts, Shape}
 use Rattle.spec_run.specs.Sites.{Site, View, slot_at}
@@ -33,7 +35,7 @@ use Rattle.base_tables.specs.Sound.{Left, Leaves, NodeRule, Within, held_at, is_
 use Rattle.spec_run.specs.Steps.{Given}
 use Rattle.spec_run.specs.Visit.{status_of}
 use Rattle.base_tables.proofs.Calls.{as_many_facts, call_keeps, held_while_running, running_lasts}
-use Rattle.run_laws.proofs.Parts.{within_more, within_same}
+use Rattle.run_laws.proofs.Parts.{held_same, within_more, within_same}
 use Rattle.run_laws.proofs.Children.{Family, SoundAll, all_move}
 use Rattle.run_laws.proofs.Instances.{instance_dated, set_here, set_within}
 use Rattle.run_laws.proofs.Beginnings.{site_here}
@@ -52,8 +54,18 @@ with_outputs_many site [] ns board = refl
 with_outputs_many site (out ∷ outs) [] board = refl
 with_outputs_many site (out ∷ outs) (n ∷ ns) board = with_outputs_many site outs ns (with_output site (given_at site out.port) n board) ∙ with_output_many site (given_at site out.port) n board
 
+with_value_many : (site : Site) (given : Option PortValue) (value : Option Value) (board : List (Option Value)) → length (with_value site given value board) ≡ length board
+with_value_many site (Some (Key key)) (Some value) board = length-set board (slot_at site key) (Some value)
+with_value_many site (Some (Key key)) None board = refl
+with_value_many site (Some (Lit literal)) value board = refl
+with_value_many site None value board = refl
+
+with_told_many : (site : Site) (names : List (List ℕ)) (told : List ToldOut) (board : List (Option Value)) → length (with_told site names told board) ≡ length board
+with_told_many site [] told board = refl
+with_told_many site (name ∷ names) told board = with_told_many site names told (with_value site (given_at site name) (told_for told name) board) ∙ with_value_many site (given_at site name) (told_for told name) board
+
 reply_board_many : (site : Site) (row : Row) (a : Answered) (board : List (Option Value)) (r : Reply) → length (reply_board site row a board r) ≡ length board
-reply_board_many site row a board reply.Success = with_outputs_many site row.outs a.outputs board
+reply_board_many site row a board reply.Success = with_told_many site (outs_told row.sort) a.told (with_outputs site row.outs a.outputs board) ∙ with_outputs_many site row.outs a.outputs board
 reply_board_many site row a board reply.Running = refl
 reply_board_many site row a board reply.Failure = refl
 reply_board_many site row a board (reply.Broken cause) = refl
@@ -72,6 +84,7 @@ start_dated : (p : Phase) (i : Instance) (now : ℕ) → NotAfter now i.since �
 start_dated phase.Start i now before = omega arith
 start_dated phase.Running i now before = held_or_now i.since now before
 start_dated phase.Halted i now before = held_or_now i.since now before
+start_dated phase.Told i now before = held_or_now i.since now before
 
 since_dated : (r : Reply) (start now : ℕ) (since : Option ℕ) → start ≤ now → NotAfter now since → NotAfter now (since_after r start since)
 since_dated reply.Running start now since begun before = λ t e. subst (λ (o : Option ℕ). IfSome o (λ k. k ≤ now)) e begun
@@ -112,7 +125,7 @@ module _ (F : Family) (node : Term-F F.Child) (view : View) (uid : ℕ) (ms : Li
 
   -- the rules of the children stay where only the leaf's instance has changed
   children_stay : (fault : Option ℕ) (s1 : State) → Within uid 1 s s1 → SoundAll F view.rows node.children fault (uid + 1) ms s1
-  children_stay fault s1 within = all_move F view.rows node.children fault (uid + 1) ms s s1 sound (λ p a b. within.above p a) (omega (arith, within.moment))
+  children_stay fault s1 within = all_move F view.rows node.children fault (uid + 1) ms s s1 sound (λ p a b. held_same s s1 p (within.above p a)) (omega (arith, within.moment))
 
   module _ (row : Row) (p : Phase) (a : Answered) (many : length a.facts ≡ length s.facts) (b : Bool) (held : held_at s uid ≡ Some b) where
     -- the state after the call, by its reply

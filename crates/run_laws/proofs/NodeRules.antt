@@ -20,13 +20,13 @@ use Rattle.spec_run.specs.Sites.{Site, View}
 use Rattle.base_tables.specs.Sound.{NodeRule, held_at, is_held, statuses}
 use Rattle.spec_run.specs.Steps.{Given}
 use Rattle.spec_run.specs.Visit.{kind_rule, node_rule, status_of}
-use Rattle.run_laws.proofs.Parts.{left_into, within_same}
+use Rattle.run_laws.proofs.Parts.{held_same, left_into, within_same}
 use Rattle.run_laws.proofs.Children.{Family, SoundAll}
 use Rattle.spec_tree.specs.BuiltIns.{has_rule}
 use Rattle.run_laws.proofs.Beginnings.{Begins, site_here}
 use Rattle.run_laws.proofs.KindRules.{kind_rule_leaves, rests_idle, rests_whole}
 use Rattle.run_laws.proofs.Scripts.{Runs, script_holds_leaves, script_run_leaves}
-use Rattle.run_laws.proofs.Whole.{RuledAs, held_same, size_here}
+use Rattle.run_laws.proofs.Whole.{RuledAs, size_here}
 use Rattle.run_laws.proofs.AfterScripts.{after_scripts, children_still, still_held}
 use Rattle.run_laws.proofs.LeafCalls.{leaf_call_leaves}
 

@@ -1,12 +1,17 @@
 -- Where a part of an event keeps the rules, and the next part does, both together do.
-use Rattle.std.proofs.Common.{◌≡◌, ℕ, ◌+◌, ◌<◌, ◌≤◌, Option, Some, None, Result, Ok, Err, slice_get, refl, ◌∙◌, arith}
+use Rattle.std.proofs.Common.{◌≡◌, ℕ, ◌+◌, ◌<◌, ◌≤◌, Option, Some, None, Result, Ok, Err, is_some, option_map, slice_get, refl, ap, ◌∙◌, arith}
 use Rattle.spec_run.specs.declared.fault.NodeFault.{NodeFault}
+use Rattle.spec_run.specs.declared.leaf.Instance.{Instance}
 use Rattle.spec_run.specs.Done.{Done, State, carried, follow}
-use Rattle.base_tables.specs.Sound.{Leaves, Left, Within}
+use Rattle.base_tables.specs.Sound.{Leaves, Left, Within, held_at}
 
--- the instances of these nodes are as they were
+-- the instances of these nodes are held where they were
 abbrev pub Same : ℕ → ℕ → State → State → Type 0
-Same uid size s s1 = (p : ℕ) → uid ≤ p → p < uid + size → slice_get s1.instances p ≡ slice_get s.instances p
+Same uid size s s1 = (p : ℕ) → uid ≤ p → p < uid + size → held_at s1 p ≡ held_at s p
+
+-- an instance that is as it was is held as it was
+pub held_same : (s s1 : State) (uid : ℕ) → slice_get s1.instances uid ≡ slice_get s.instances uid → held_at s1 uid ≡ held_at s uid
+held_same s s1 uid same = ap (λ (o : Option Instance). option_map (λ (i : Instance). is_some i.since) o) same
 
 pub within_same : (uid size : ℕ) (s : State) → Within uid size s s
 within_same uid size s = record { below = λ p e. refl; above = λ p e. refl; slots = refl; facts = refl; instances = refl; moment = refl; dated = λ d. d }

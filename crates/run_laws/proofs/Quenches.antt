@@ -11,7 +11,7 @@ use Rattle.spec_tree.specs.declared.term.Term.TheFolds.{map-Term}
 use Rattle.spec_tree.specs.declared.term.Tree.{Tree}
 use Rattle.spec_world.specs.declared.world.Row.{Row}
 use Rattle.spec_run.specs.Done.{State}
-use Rattle.spec_run.specs.Leaf.{released}
+use Rattle.spec_run.specs.Leaf.{let_go}
 use Rattle.spec_run.specs.Run.{Runner, quenched_runner, settled, state_of}
 use Rattle.base_tables.specs.Shapes.{status_at}
 use Rattle.spec_run.specs.Sites.{Meaning, sizes}
@@ -52,12 +52,12 @@ record RestsSound (t : Term) (c : Meaning) (rules : States) : Type 0 where
 
 -- ---- A quench
 
-no_since : (instances : List Instance) (p t : ℕ) → option_map (λ (i : Instance). i.since) (slice_get (map released instances) p) ≡ Some (Some t) → ⊥
+no_since : (instances : List Instance) (p t : ℕ) → option_map (λ (i : Instance). i.since) (slice_get (map let_go instances) p) ≡ Some (Some t) → ⊥
 no_since [] p t e = cc
 no_since (i ∷ instances) zero t e = cc
 no_since (i ∷ instances) (suc p) t e = no_since instances p t e
 
-nothing_held : (instances : List Instance) (p : ℕ) → p < length instances → option_map (λ (i : Instance). is_some i.since) (slice_get (map released instances) p) ≡ Some false
+nothing_held : (instances : List Instance) (p : ℕ) → p < length instances → option_map (λ (i : Instance). is_some i.since) (slice_get (map let_go instances) p) ≡ Some false
 nothing_held [] p within = absurd (omega (arith, within))
 nothing_held (i ∷ instances) zero within = refl
 nothing_held (i ∷ instances) (suc p) within = nothing_held instances p (omega (arith, within))
@@ -107,6 +107,6 @@ pub quench_steady : (tree : Tree) (rows : List Row) (r : Runner) (facts : List �
 quench_steady tree rows r facts at room = record {
   sound = idle_sound tree.term rows 1 (state_of (quenched_runner tree r) facts at) (λ p a b. nothing_held r.instances p (omega (arith, b, room)));
   root = idle_settled tree.term;
-  room = omega (arith, room, length-map r.instances released);
+  room = omega (arith, room, length-map r.instances let_go);
   dated = λ p since e. absurd (no_since r.instances p since e);
 }

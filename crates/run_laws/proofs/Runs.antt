@@ -9,12 +9,13 @@ use Rattle.spec_run.specs.declared.leaf.Instance.{Instance}
 use Rattle.spec_run.specs.declared.note.Note.{Note}
 use Rattle.spec_tree.specs.declared.term.Tree.{Tree}
 use Rattle.spec_world.specs.declared.world.Event.{Event}
+use Rattle.spec_world.specs.declared.world.Telling.{Telling}
 use Rattle.spec_world.specs.declared.world.What.{What}
-use Rattle.spec_world.specs.declared.world.What.TheVariants.{Tick, Halt, Change}
+use Rattle.spec_world.specs.declared.world.What.TheVariants.{Tick, Halt, Change, Tell}
 use Rattle.spec_world.specs.declared.world.World.{World}
 use Rattle.spec_run.specs.Done.{Call}
 use Rattle.spec_run.specs.Leaf.{fresh}
-use Rattle.spec_run.specs.Run.{RunState, Runner, Stepped, Trace, before_rest, finish, finishes, fresh_runner, opening, reset_step, run_from, run_over, runner_at, state_of, step, step_by, tick_step, told}
+use Rattle.spec_run.specs.Run.{RunState, Runner, Stepped, Trace, before_rest, finish, finishes, fresh_runner, opening, reset_step, run_from, run_over, runner_at, state_of, step, step_by, tell_step, tick_step, told}
 use Rattle.base_tables.specs.Sound.{RunSteady, Steady}
 use Rattle.spec_tree.specs.Terms.{node_count}
 use Rattle.run_laws.proofs.Entries.{equal_entry}
@@ -48,10 +49,15 @@ reset_last : (o : Option Runner) (h : Header) (tree : Tree) (world : World) (run
 reset_last None h tree world runner at s = refl
 reset_last (Some r) h tree world runner at s = told_last _ h tree runner _ _ s _
 
+tell_last : (o : Option Runner) (runner uid : ℕ) (telling : Telling) (at : ℕ) (s : RunState) → (tell_step o runner uid telling at s).state.last ≡ at
+tell_last None runner uid telling at s = refl
+tell_last (Some r) runner uid telling at s = refl
+
 pub step_last : (what : What) (tree : Tree) (world : World) (at : ℕ) (s : RunState) → (step_by what tree world at s).state.last ≡ at
 step_last (Tick runner) tree world at s = tick_last (runner_at s runner) tree world runner at s
 step_last (Halt runner) tree world at s = reset_last (runner_at s runner) _ tree world runner at s
 step_last (Change fact value) tree world at s = refl
+step_last (Tell runner uid telling) tree world at s = tell_last (runner_at s runner) runner uid telling at s
 
 -- these events are in order, and none comes before this moment
 pub record InOrderFrom (last : ℕ) (events : List Event) : Type 0 where

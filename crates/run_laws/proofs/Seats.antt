@@ -6,6 +6,7 @@ use Rattle.spec_run.specs.Done.{State}
 use Rattle.spec_run.specs.Sites.{View, child_of, children_from, memory_at}
 use Rattle.base_tables.specs.Sound.{Within}
 use Rattle.spec_run.specs.Steps.{Child, child_at, nobody}
+use Rattle.run_laws.proofs.Parts.{held_same}
 use Rattle.run_laws.proofs.Children.{Family, SoundAll, all_move, size_all, size_cons}
 
 -- the child at this place has this uid: its rules are among those of all, and what a part leaves of it is among what
@@ -34,7 +35,7 @@ module _ (F : Family) (rows : List Row) where
     first_back : (fault : Option ℕ) (ms : List Memory) (m : Memory) (s s1 : State) →
         All (c ∷ cs) None uid ms s → Within uid (F.meaning c).size s s1 → F.rules c rows fault uid m s1 → All (c ∷ cs) fault uid (slice_set ms zero m) s1
     first_back fault [] m s s1 all w here = absurd all
-    first_back fault (old ∷ ms) m s s1 all w here = (here, all_move F rows cs fault (uid + (F.meaning c).size) ms s s1 all.1 (λ p a b. w.above p a) (no_time_back w))
+    first_back fault (old ∷ ms) m s s1 all w here = (here, all_move F rows cs fault (uid + (F.meaning c).size) ms s s1 all.1 (λ p a b. held_same s s1 p (w.above p a)) (no_time_back w))
 
     pub first_seat : Seat F rows (c ∷ cs) uid zero c uid
     first_seat = record { low = omega arith; high = omega (arith, size_cons F c cs); there = omega arith; is = refl; sound = first_sound; back = first_back }
@@ -48,7 +49,7 @@ module _ (F : Family) (rows : List Row) where
           All (c ∷ cs) None uid ms s → Within at (F.meaning d).size s s1 → F.rules d rows fault at m s1 → All (c ∷ cs) fault uid (slice_set ms (suc place) m) s1
       later_back fault [] m s s1 all w here = absurd all
       later_back fault (old ∷ ms) m s s1 all w here =
-          ((F.keeps c).moves rows fault uid old s s1 all.0 (λ p a b. w.below p (omega (arith, b, seat.low))) (no_time_back w), seat.back fault ms m s s1 all.1 w here)
+          ((F.keeps c).moves rows fault uid old s s1 all.0 (λ p a b. held_same s s1 p (w.below p (omega (arith, b, seat.low)))) (no_time_back w), seat.back fault ms m s s1 all.1 w here)
 
       pub later_seat : Seat F rows (c ∷ cs) uid (suc place) d at
       later_seat = record {

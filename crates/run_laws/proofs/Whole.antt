@@ -1,6 +1,5 @@
 -- A node with children that keep their rules: the rule of the node itself, and those of its children.
-use Rattle.std.proofs.Common.{◌≡◌, ℕ, ◌+◌, ◌<◌, ◌≤◌, List, Option, Some, None, sym, ap, subst, ◌∙◌, arith, slice_get, option_map, is_some}
-use Rattle.spec_run.specs.declared.leaf.Instance.{Instance}
+use Rattle.std.proofs.Common.{◌≡◌, ℕ, ◌+◌, ◌<◌, ◌≤◌, List, Option, Some, None, sym, ap, subst, ◌∙◌, arith}
 use Rattle.spec_run.specs.declared.memory.Memo.{Memo}
 use Rattle.spec_run.specs.declared.memory.Memo.TheVariants.{Since as Begun}
 use Rattle.spec_run.specs.declared.memory.Memory.{Memory, Memory-F, out-Memory, out-roll-Memory}
@@ -42,10 +41,6 @@ shape_later status.Failure kind ports row moment later memo ss ahead shape = sha
 
 -- ---- The node
 
--- an instance that is as it was is held as it was
-pub held_same : (s s1 : State) (uid : ℕ) → slice_get s1.instances uid ≡ slice_get s.instances uid → held_at s1 uid ≡ held_at s uid
-held_same s s1 uid same = ap (λ (o : Option Instance). option_map (λ (i : Instance). is_some i.since) o) same
-
 module _ (F : Family) (node : Term-F F.Child) (view : View) (uid : ℕ) where
   abbrev pub size_here : ℕ
   size_here = 1 + size_all F node.children
@@ -78,7 +73,7 @@ module _ (F : Family) (node : Term-F F.Child) (view : View) (uid : ℕ) where
   pub node_moves : (st : Status) (memo : Memo) (ms : List Memory) (s s1 : State) → NodeKeeps st memo ms s → Same uid 1 s s1 → s.moment ≤ s1.moment → NodeKeeps st memo ms s1
   node_moves st memo ms s s1 own same later = record {
     shape = shape_later st node.kind node.ports (row_of view.rows node.id) s.moment s1.moment memo _ later own.shape;
-    held = held_same s s1 uid (same uid (omega arith) (omega arith)) ∙ own.held;
+    held = same uid (omega arith) (omega arith) ∙ own.held;
   }
 
   -- and so do the rules of the children

@@ -1,11 +1,11 @@
-ghost use Rattle.std.specs.Prelude.{◌≡◌, ◌<◌, ◌≤◌, ◌+◌, ℕ, Ok, [], length};
+ghost use Rattle.std.specs.Prelude.{◌≡◌, ◌<◌, ◌≤◌, ◌+◌, ℕ, Ok, length};
 ghost use Rattle.std.specs.Ordering.{int_cmp};
 ghost use Rattle.spec_script.specs.Operators.{compares};
 ghost use Rattle.spec_run.specs.declared.leaf.DriverKind.TheVariants as driver;
 ghost use Rattle.spec_run.specs.declared.leaf.Instance.{Instance as Held};
 ghost use Rattle.spec_run.specs.declared.leaf.Phase.TheVariants as phase;
 ghost use Rattle.spec_run.specs.Drivers.{after_call, instance_of};
-ghost use Rattle.base_tables.specs.Outputs.{outputs_left};
+ghost use Rattle.base_tables.specs.Outputs.{no_outputs, outputs_left};
 ghost use Rattle.run_driver.specs.Ready.{expr_reach, ready_test};
 ghost use Rattle.run_leaves.specs.Conditions.{left_by, reply_by};
 
@@ -13,10 +13,11 @@ use crate::instances::released;
 use crate::ledger::Ledger;
 use base_texts::NoMemory;
 use run_driver::{
-    Call, CallPhase, Driver, FactTable, Inputs, Outs, ReadyExpr, ReadyRow, ReadySort,
+    Call, CallPhase, Driver, FactTable, Hold, Inputs, Outs, ReadyExpr, ReadyRow, ReadySort,
 };
-use spec_run::{DriverKind, Instance, Phase, Reply, Totals};
+use spec_run::{DriverKind, Phase, Reply, Totals};
 use spec_script::Cmp;
+use spec_world::Telling;
 use std::alloc::Global;
 
 /// Whether the first number compares so with the second.
@@ -36,7 +37,7 @@ fn holds(op: Cmp, first: i64, second: i64) -> bool
 
 /// The instance that a condition leaves after this reply: not held, or unchanged where there is a
 /// fault.
-fn left_by(reply: Reply, instance: Instance) -> Instance
+fn left_by(reply: Reply, instance: Hold) -> Hold
     ensures { result ≡ left_by reply instance }
 {
     match reply {
@@ -49,14 +50,12 @@ fn left_by(reply: Reply, instance: Instance) -> Instance
 #[inline(always)]
 fn replied(truth: bool, outs: &mut Outs) -> Reply
     ensures reply { result ≡ reply_by (Ok truth) }
-    ensures outs { outs.new ≡ outputs_left result [] outs.old }
+    ensures outs { outs.new ≡ outputs_left result no_outputs outs.old }
 {
     if !truth {
         return Reply::Failure;
     }
-    if !outs.list().is_empty() {
-        *outs = Outs::new();
-    }
+    outs.clear();
     Reply::Success
 }
 
@@ -66,7 +65,7 @@ fn replied(truth: bool, outs: &mut Outs) -> Reply
 fn tested(test: &ReadyExpr, inputs: &Inputs, facts: &FactTable, outs: &mut Outs) -> Reply
     requires { expr_reach test.now ≤ 8 + length facts.now }
     ensures reply { result ≡ reply_by (ready_test test.now inputs.now facts.now) }
-    ensures outs { outs.new ≡ outputs_left result [] outs.old }
+    ensures outs { outs.new ≡ outputs_left result no_outputs outs.old }
 {
     match test.is_true(inputs, facts) {
         Ok(truth) => replied(truth, outs),
@@ -157,11 +156,15 @@ impl Driver for Conditions {
             record_running(&mut self.ledger, call.instance, reply);
             return reply;
         }
-        self.ledger.count(Phase::Start, call.instance);
+        self.ledger.count_start(call.instance);
         Self::answer(call.row, call.inputs, facts, outs)
     }
 
     fn halted(&mut self, instance: u32) {
         self.ledger.halted(instance)
+    }
+
+    fn tell(&mut self, _instance: u32, _telling: Telling) {
+        unreachable!()
     }
 }

@@ -2,19 +2,23 @@ ghost use Rattle.std.specs.Prelude.{◌≡◌, ◌<◌, ◌^◌, IfOk, OnOk, OnE
 ghost use Rattle.spec_run.specs.Drivers.{after_call, counted, instance_of, is_held, new_driver, prepared};
 ghost use Rattle.base_tables.specs.DriverCalls.{after_halted, held_count};
 ghost use Rattle.spec_run.specs.Leaf as leaf;
+ghost use Rattle.spec_run.specs.declared.leaf.Phase.TheVariants as phase;
 
 use crate::instances::{fresh, released};
+use crate::tally::{count, no_calls};
 use base_texts::NoMemory;
-use spec_run::{DriverKind, Instance, Phase, Totals};
+use run_driver::Hold;
+use spec_run::{DriverKind, Phase, Totals};
 use std::alloc::Global;
 use std::marker::Model;
 
-/// All that a driver keeps: its kind and its mark, its instances by their number, and its totals.
+/// All that a driver keeps whose leaves are told nothing: its kind and its mark, its instances by their number, and
+/// its totals.
 #[derive(Debug, Drop)]
 pub struct Ledger {
     kind: DriverKind,
     mark: u64,
-    table: Vec<Instance>,
+    table: Vec<Hold>,
     totals: Totals,
 }
 
@@ -30,7 +34,7 @@ impl Model for Ledger {
 }
 
 /// How many instances of this table are held.
-fn held_among(table: &[Instance]) -> u32
+fn held_among(table: &[Hold]) -> u32
     requires { length table.now < 2 ^ 32 }
     ensures { result ≡ count_by is_held table.now }
 {
@@ -42,7 +46,7 @@ fn held_among(table: &[Instance]) -> u32
 
 /// A table of this many instances that were never held. The error is want of memory (out of
 /// memory).
-fn fresh_table(alloc: Global, count: u32) -> Result<Vec<Instance>, NoMemory>
+fn fresh_table(alloc: Global, count: u32) -> Result<Vec<Hold>, NoMemory>
     ensures { IfOk result (λ table. table.items ≡ replicate count leaf.fresh) }
 {
     let table = vec![in alloc; fresh(); count as usize]?;
@@ -58,12 +62,7 @@ impl Ledger {
             kind,
             mark: 0,
             table: Vec::new(alloc),
-            totals: Totals {
-                starts: 0,
-                runnings: 0,
-                haltings: 0,
-                trail: 0,
-            },
+            totals: no_calls(),
         }
     }
 
@@ -101,44 +100,34 @@ impl Ledger {
 
     /// The instance of this number.
     #[inline(always)]
-    pub fn instance(&self, instance: u32) -> Instance
+    pub fn instance(&self, instance: u32) -> Hold
         requires { instance < length self.now.table }
         ensures { result ≡ instance_of self.now instance }
     {
         self.table[instance as usize]
     }
 
-    /// Counts a call for an instance, in place.
+    /// Counts a call to begin of a leaf that is not held, and leaves its instance as it is. The instance is looked at for
+    /// the contract alone, which says that it was told nothing.
     #[inline(always)]
-    pub fn count(&mut self, phase: Phase, instance: u32)
-        ensures { self.new ≡ record self.old { totals = counted self.old.totals phase instance } }
+    pub fn count_start(&mut self, instance: u32)
+        requires there { instance < length self.old.table }
+        requires free { (instance_of self.old instance).since ≡ None }
+        ensures totals { self.new ≡ record self.old { totals = counted self.old.totals phase.Start instance } }
+        ensures left { leaf.released (instance_of self.old instance) ≡ instance_of self.old instance }
     {
-        let totals = &mut self.totals;
-        let trail = totals.trail.wrapping_mul(1_000_003);
-        let place = 3 * u64::from(instance);
-        match phase {
-            Phase::Start => {
-                totals.starts = totals.starts.saturating_add(1);
-                totals.trail = trail.wrapping_add(place + 1);
-            }
-            Phase::Running => {
-                totals.runnings = totals.runnings.saturating_add(1);
-                totals.trail = trail.wrapping_add(place + 2);
-            }
-            Phase::Halted => {
-                totals.haltings = totals.haltings.saturating_add(1);
-                totals.trail = trail.wrapping_add(place + 3);
-            }
-        }
+        let hold = &self.table[instance as usize];
+        let _ = &hold.since;
+        count(&mut self.totals, Phase::Start, instance);
     }
 
     /// Counts a call for an instance, which leaves the instance so.
     #[inline(always)]
-    pub fn record_call(&mut self, phase: Phase, instance: u32, left: Instance)
+    pub fn record_call(&mut self, phase: Phase, instance: u32, left: Hold)
         requires { instance < length self.old.table }
         ensures { self.new ≡ after_call self.old phase instance left }
     {
-        self.count(phase, instance);
+        count(&mut self.totals, phase, instance);
         self.table[instance as usize] = left;
     }
 

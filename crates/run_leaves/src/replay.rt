@@ -5,8 +5,9 @@ ghost use Rattle.spec_run.specs.Leaf as leaf;
 use crate::instances::{began, completed, held};
 use crate::ledger::Ledger;
 use base_texts::NoMemory;
-use run_driver::{Call, Driver, FactTable, Outs, ReadySort};
-use spec_run::{DriverKind, Instance, Reply, Totals};
+use run_driver::{Call, Driver, FactTable, Hold, Outs, ReadySort};
+use spec_run::{DriverKind, Reply, Totals};
+use spec_world::Telling;
 use std::alloc::Global;
 
 /// The outcome after this many completions; after the last outcome it stays the last.
@@ -49,10 +50,10 @@ impl Replay {
     fn answer(
         call: &Call,
         since: u64,
-        before: Instance,
+        before: Hold,
         facts: &mut FactTable,
         outs: &mut Outs,
-    ) -> (Reply, Instance)
+    ) -> (Reply, Hold)
         requires since { since ≤ call.now.moment }
         requires kind { kind_of_way (rule call.now.row.now).way ≡ driver.Replay }
         requires table { length facts.old ≡ call.now.row.now.facts }
@@ -106,5 +107,9 @@ impl Driver for Replay {
 
     fn halted(&mut self, instance: u32) {
         self.ledger.halted(instance)
+    }
+
+    fn tell(&mut self, _instance: u32, _telling: Telling) {
+        unreachable!()
     }
 }

@@ -4,8 +4,9 @@ ghost use Rattle.spec_run.specs.declared.leaf.DriverKind.TheVariants as driver;
 use crate::instances::{began, held, released};
 use crate::ledger::Ledger;
 use base_texts::NoMemory;
-use run_driver::{Call, Driver, FactTable, Outs, ReadySort};
-use spec_run::{DriverKind, Instance, Reply, Totals};
+use run_driver::{Call, Driver, FactTable, Hold, Outs, ReadySort};
+use spec_run::{DriverKind, Reply, Totals};
+use spec_world::Telling;
 use std::alloc::Global;
 
 /// Answers the `timed` rows: actions that last a time, and may then fail.
@@ -37,10 +38,10 @@ impl Timed {
     fn answer(
         call: &Call,
         since: u64,
-        before: Instance,
+        before: Hold,
         facts: &mut FactTable,
         outs: &mut Outs,
-    ) -> (Reply, Instance)
+    ) -> (Reply, Hold)
         requires since { since ≤ call.now.moment }
         requires kind { kind_of_way (rule call.now.row.now).way ≡ driver.Timed }
         requires table { length facts.old ≡ call.now.row.now.facts }
@@ -100,5 +101,9 @@ impl Driver for Timed {
 
     fn halted(&mut self, instance: u32) {
         self.ledger.halted(instance)
+    }
+
+    fn tell(&mut self, _instance: u32, _telling: Telling) {
+        unreachable!()
     }
 }

@@ -4,7 +4,10 @@ pub mod Endings
 pub mod FewLeaves
 pub mod Groups
 pub mod Growing
+pub mod Lacking
 pub mod Lists
+pub mod Matched
+pub mod Messages
 pub mod Opening
 pub mod Others
 pub mod Places

@@ -24,41 +24,9 @@ use Rattle.spec_run.specs.Joins.{is_place, leaves_served, place_by}
 use Rattle.run_arena.specs.Laying.{driver_of}
 use Rattle.run_arena.specs.Nodes.{IsLeafOf, LeafStands, leaf_at}
 use Rattle.spec_run.specs.Joins.{is_leaf}
-use Rattle.run_arena.specs.Stands.{Standing, StandAll, Stands, view_under, written}
-use Rattle.run_arena.proofs.Opened.{stands_roll}
-use Rattle.run_arena.proofs.Static.{size_is}
+use Rattle.run_arena.specs.Stands.{Stands, written}
 use Rattle.spec_run.specs.Served.{place_serving, served_among}
-
--- ---- The nodes of an arena
-
--- the places of the drivers of this many nodes, from a uid on
-abbrev pub places_from : List Node → ℕ → ℕ → List (Option ℕ)
-places_from nodes uid zero = []
-places_from nodes uid (suc count) = driver_of (leaf_at nodes uid) ∷ places_from nodes (uid + 1) count
-
-module _ (nodes : List Node) where
-  -- some nodes, and those after them
-  from_both : (m n uid : ℕ) → places_from nodes uid (m + n) ≡ places_from nodes uid m ++ places_from nodes (uid + m) n
-  from_both zero n uid =
-      let none : 0 + n ≡ n = omega arith in
-      let here : uid ≡ uid + 0 = omega arith in
-      ap (places_from nodes uid) none ∙ ap (λ u. places_from nodes u n) here
-  from_both (suc m) n uid =
-      let one : suc m + n ≡ suc (m + n) = omega arith in
-      let there : uid + 1 + m ≡ uid + suc m = omega arith in
-      ap (places_from nodes uid) one
-      ∙ ap (λ (ps : List (Option ℕ)). driver_of (leaf_at nodes uid) ∷ ps) (from_both m n (uid + 1) ∙ ap (λ u. places_from nodes (uid + 1) m ++ places_from nodes u n) there)
-
-  from_next : (x : Node) (count uid : ℕ) → places_from (x ∷ nodes) (suc uid) count ≡ places_from nodes uid count
-  from_next x zero uid = refl
-  from_next x (suc count) uid =
-      let next : suc uid + 1 ≡ suc (uid + 1) = omega arith in
-      ap (λ (ps : List (Option ℕ)). driver_of (leaf_at nodes uid) ∷ ps) (ap (λ u. places_from (x ∷ nodes) u count) next ∙ from_next x count (uid + 1))
-
--- all nodes
-pub all_places : (nodes : List Node) → map (λ (node : Node). driver_of node.leaf) nodes ≡ places_from nodes 0 (length nodes)
-all_places [] = refl
-all_places (x ∷ nodes) = ap (λ (ps : List (Option ℕ)). driver_of x.leaf ∷ ps) (all_places nodes ∙ sym (from_next nodes x (length nodes) 0))
+use Rattle.run_loop.proofs.Matched.{matched, said_from}
 
 -- ---- The nodes of a tree
 
@@ -87,34 +55,9 @@ module _ (world : World) (drivers : List DriverState) where
       )
 
   module _ (nodes : List Node) (first : (uid : ℕ) → HasFirst (leaf_at nodes uid)) where
-    abbrev IsPlaced : Term → Type 0
-    IsPlaced t = (view : View) (uid : ℕ) → view.rows ≡ world.rows → Stands t nodes view uid → places_from nodes uid (node_count t) ≡ map serving (nodes_of t)
-
-    abbrev pub AllPlaced : List Term → Type 0
-    AllPlaced ts = (view : View) (uid : ℕ) → view.rows ≡ world.rows → StandAll ts nodes view uid →
-        places_from nodes uid (sum (map node_count ts)) ≡ map serving (flat_map (λ ns. ns) (map nodes_of ts))
-
-    all_placed : (ts : List ((t : Term) × IsPlaced t)) → AllPlaced (map (λ e. e.0) ts)
-    all_placed [] view uid rows stand = refl
-    all_placed (e ∷ ts) view uid rows stand =
-        let others : List Term = map (λ x. x.0) ts in
-        let whole : sum (map node_count (e.0 ∷ others)) ≡ node_count e.0 + sum (map node_count others) = sum_by-cons (λ (k : ℕ). k) (node_count e.0) (map node_count others) in
-        let rest : StandAll others nodes view (uid + node_count e.0) = subst (λ n. StandAll others nodes view (uid + n)) (size_is e.0) stand.1 in
-        ap (places_from nodes uid) whole
-        ∙ from_both nodes (node_count e.0) (sum (map node_count others)) uid
-        ∙ (λ i. e.1 view uid rows stand.0 i ++ all_placed ts view (uid + node_count e.0) rows rest i)
-        ∙ sym (map-append serving (nodes_of e.0) (flat_map (λ ns. ns) (map nodes_of others)))
-
     -- a term's nodes are served by the drivers of the arena's leaves
-    pub placed : (t : Term) (view : View) (uid : ℕ) → view.rows ≡ world.rows → Stands t nodes view uid → places_from nodes uid (node_count t) ≡ map serving (nodes_of t)
-    placed = ind-Term IsPlaced (λ x y is view uid rows stands.
-        let here = subst (λ (p : Standing). p nodes view uid) (stands_roll x) stands in
-        let count : node_count (roll-Term x) ≡ suc (sum (map node_count x.children)) = fold-roll-Term ℕ (λ node. 1 + sum node.children) x ∙ omega arith in
-        let all : map serving (nodes_of (roll-Term x)) ≡ serving (written x) ∷ map serving (flat_map (λ ns. ns) (map nodes_of x.children)) = ap (map serving) (fold-roll-Term (List TreeNode) nodes_step x) in
-        let own : driver_of (leaf_at nodes uid) ≡ serving (written x) = own_place view (written x) (leaf_at nodes uid) rows here.1.leaf (first uid) in
-        let children : places_from nodes (uid + 1) (sum (map node_count x.children)) ≡ map serving (flat_map (λ ns. ns) (map nodes_of x.children)) =
-        subst (λ (z : Term-F Term). AllPlaced z.children) is (all_placed y.children) (view_under view uid (written x)) (uid + 1) rows here.2 in
-        ap (places_from nodes uid) count ∙ (λ i. own i ∷ children i) ∙ sym all)
+    pub placed : (t : Term) (view : View) (uid : ℕ) → view.rows ≡ world.rows → Stands t nodes view uid → said_from driver_of nodes uid (node_count t) ≡ map serving (nodes_of t)
+    placed = matched driver_of serving world.rows nodes (λ view node uid rows stands. own_place view node (leaf_at nodes uid) rows stands (first uid))
 
   -- ---- The leaves of a tree
 

@@ -15,7 +15,7 @@ use Rattle.spec_world.specs.declared.world.World.{World}
 use Rattle.spec_run.specs.Done.{Call}
 use Rattle.spec_run.specs.Drivers.{DriverState, NothingHeld, is_held}
 use Rattle.base_tables.specs.DriverCalls.{instance_at}
-use Rattle.spec_run.specs.Leaf.{fresh, released}
+use Rattle.spec_run.specs.Leaf.{fresh, let_go, released}
 use Rattle.spec_run.specs.Run.{Runner, releases, quench_calls, quench_notes, quenched_notes, quenched_runner, root_view, runner_calls}
 use Rattle.spec_run.specs.Visit.{idle}
 use Rattle.run_arena.specs.declared.nodes.Node.{Node}
@@ -31,13 +31,13 @@ use Rattle.run_loop.proofs.Lists.{entry, map_alike, set_is, within}
 use Rattle.run_loop.proofs.Others.{over_both, over_runner}
 use Rattle.run_loop.proofs.Putting.{arenas_same, fit_put, nodes_are, runners_put}
 
-released_twice : (is : List Instance) → map released (map released is) ≡ map released is
-released_twice [] = refl
-released_twice (i ∷ is) = ap (λ xs. released i ∷ xs) (released_twice is)
+let_go_twice : (is : List Instance) → map let_go (map let_go is) ≡ map let_go is
+let_go_twice [] = refl
+let_go_twice (i ∷ is) = ap (λ xs. let_go i ∷ xs) (let_go_twice is)
 
 -- a second quench of a runner changes nothing
 pub twice : (tree : Tree) (r : Runner) → quenched_runner tree (quenched_runner tree r) ≡ quenched_runner tree r
-twice tree r = ap (λ (is : List Instance). let one : Runner = record { memory = idle tree.term; board = r.board; instances = is } in one) (released_twice r.instances)
+twice tree r = ap (λ (is : List Instance). let one : Runner = record { memory = idle tree.term; board = r.board; instances = is } in one) (let_go_twice r.instances)
 
 drop_set : {A : Type 0} (xs : List A) (i : ℕ) (y : A) → drop (suc i) (set xs i y) ≡ drop (suc i) xs
 drop_set [] i y = refl
@@ -161,7 +161,7 @@ module _ (tree : Tree) (world : World) (facts : List ℤ) (place : ℕ) (before 
   pub quenched_state_end : runners_in tree.term now rs ≡ map (quenched_runner tree) (runners_in tree.term before old)
   quenched_state_end = sym stays_same ∙ so_far.state
 
-  free_at : (is : List Instance) (uid : ℕ) → is_held (get_or (map released is) uid fresh) ≡ false
+  free_at : (is : List Instance) (uid : ℕ) → is_held (get_or (map let_go is) uid fresh) ≡ false
   free_at [] uid = refl
   free_at (i ∷ is) zero = refl
   free_at (i ∷ is) (suc uid) = free_at is uid

@@ -38,6 +38,7 @@ risen_counted : (t : Totals) (phase : Phase) (instance : ℕ) → HasRisen t (co
 risen_counted t phase.Start instance = record { starts = raised_more t.starts; runnings = kept t.runnings; haltings = kept t.haltings }
 risen_counted t phase.Running instance = record { starts = kept t.starts; runnings = raised_more t.runnings; haltings = kept t.haltings }
 risen_counted t phase.Halted instance = record { starts = kept t.starts; runnings = kept t.runnings; haltings = raised_more t.haltings }
+risen_counted t phase.Told instance = record { starts = kept t.starts; runnings = kept t.runnings; haltings = kept t.haltings }
 
 pub same_roster : (ds : List DriverState) → IsSameRoster ds ds
 same_roster ds = record { as_many = refl; kind = λ place. refl; mark = λ place. refl; totals = λ place. risen_same (driver_at ds place).totals }

@@ -30,7 +30,8 @@ use Rattle.run_loop.specs.Opening.{AreOpening}
 use Rattle.run_loop.specs.Runs.{AreApart, arenas_in, nodes_of_runner, roster_over}
 use Rattle.spec_run.specs.Served.{call_made, calls_made, instance_number, place_called, place_serving, served_among, serving_places}
 use Rattle.run_loop.proofs.Lists.{entry, within}
-use Rattle.run_loop.proofs.Places.{HasFirst, all_places, leaves_counted, placed, places_from}
+use Rattle.run_loop.proofs.Matched.{all_said, said_from}
+use Rattle.run_loop.proofs.Places.{HasFirst, leaves_counted, placed}
 
 -- ---- Counts
 
@@ -85,8 +86,8 @@ module _ (tree : Tree) (world : World) (drivers : List DriverState) where
     all_are : map (λ (node : Node). driver_of node.leaf) nodes ≡ driver_of (leaf_at nodes 0) ∷ below
     all_are =
         let count : length nodes ≡ suc (node_count tree.term) = omega (arith, is.size) in
-        all_places nodes
-        ∙ ap (places_from nodes 0) count
+        all_said driver_of nodes
+        ∙ ap (said_from driver_of nodes 0) count
         ∙ ap (λ (ps : List (Option ℕ)). driver_of (leaf_at nodes 0) ∷ ps) (placed world drivers nodes first_at tree.term (root_view tree world) 1 refl is.stands)
 
     nobody_by : (found : Option ReadyLeaf) → leaf_at nodes 0 ≡ found → found ≡ None

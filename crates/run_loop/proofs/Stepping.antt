@@ -55,7 +55,7 @@ no_change : (runner slot : ℕ) (e : Option Value) (rest : List (ℕ × ℕ × V
 no_change runner slot None rest = refl
 no_change runner slot (Some v) rest = ap (λ b. cond b rest ((runner, slot, v) ∷ rest)) (had_same v)
 
-same_entries : (runner slot : ℕ) (entries : List (Option Value)) → changed_entries runner slot entries entries ≡ []
+pub same_entries : (runner slot : ℕ) (entries : List (Option Value)) → changed_entries runner slot entries entries ≡ []
 same_entries runner slot [] = refl
 same_entries runner slot (e ∷ es) = no_change runner slot e (changed_entries runner (slot + 1) es es) ∙ same_entries runner (slot + 1) es
 
@@ -63,11 +63,11 @@ pub same_boards : (runner : ℕ) (rs : List Runner) → changed_boards runner rs
 same_boards runner [] = refl
 same_boards runner (r ∷ rs) = (λ i. same_entries runner 0 r.board i ++ same_boards (runner + 1) rs i)
 
-abbrev board_of : Runner → List (Option Value)
+abbrev pub board_of : Runner → List (Option Value)
 board_of r = r.board
 
 -- one runner's blackboard has changed
-one_board : (runner : ℕ) (rs : List Runner) (i : ℕ) (new : Runner) → i < length rs → changed_boards runner rs (set rs i new) ≡ changed_entries (runner + i) 0 (get_or (map board_of rs) i []) new.board
+pub one_board : (runner : ℕ) (rs : List Runner) (i : ℕ) (new : Runner) → i < length rs → changed_boards runner rs (set rs i new) ≡ changed_entries (runner + i) 0 (get_or (map board_of rs) i []) new.board
 one_board runner [] i new low = absurd (omega (arith, low))
 one_board runner (r ∷ rs) zero new low =
     ap (λ xs. changed_entries runner 0 r.board new.board ++ xs) (same_boards (runner + 1) rs)

@@ -1,5 +1,7 @@
 pub mod Begun
 pub mod Ending
+pub mod Fitting
+pub mod Hearing
 pub mod Held
 pub mod Opening
 pub mod Parts

@@ -6,9 +6,10 @@ use Rattle.spec_run.specs.declared.note.Note.{Note}
 use Rattle.spec_run.specs.declared.note.Note.TheVariants.{Faulted}
 use Rattle.spec_tree.specs.declared.term.Term.{Term}
 use Rattle.spec_world.specs.declared.world.Event.{Event}
-use Rattle.spec_world.specs.declared.world.World.{World}
 use Rattle.spec_run.specs.Drivers.{DriverState, NothingHeld}
+use Rattle.spec_run.specs.Joins.{event_lacks}
 use Rattle.spec_run.specs.Run.{RunState, Runner, RunnerCall, Stepped, quench_calls, quench_notes, quenched}
+use Rattle.spec_tree.specs.Trees.{nodes_of}
 use Rattle.spec_world.specs.Worlds.{IsValidWhat}
 use Rattle.run_arena.specs.declared.block.Block.{Block}
 use Rattle.run_arena.specs.declared.nodes.Node.{Node}
@@ -23,9 +24,11 @@ use Rattle.base_texts.specs.declared.stop.Stop.TheVariants as stop
 
 -- ---- Premises
 
--- an event names a runner or a fact that is there, and is not before the last one
-abbrev pub CanCome : World → ℕ → Event → Type 0
-CanCome world last event = IsValidWhat world.facts world.runners event.what × (last ≤ event.at)
+-- an event names a runner or a fact that is there, is not before the last one, and tells only a leaf that can be told it
+abbrev pub CanCome : Setup → ℕ → Event → Type 0
+CanCome of last event =
+    IsValidWhat of.world.facts of.world.runners event.what × (last ≤ event.at)
+    × (event_lacks of.world.rows (nodes_of of.tree.term) event.what ≡ None)
 
 -- the notes were made with room for the leaves of all runners
 abbrev pub HaveRoom : List (List Node) → Noted → Type 0

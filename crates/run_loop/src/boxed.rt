@@ -3,9 +3,10 @@ ghost use Rattle.std.specs.Prelude.{map};
 use base_texts::NoMemory;
 use run_driver::{
     Call, Driver, Drivers, FactTable, Outs, call_at, find_kind, halt_at, hold_nothing, prepare_all,
-    totals_of,
+    tell_at, totals_of,
 };
 use spec_run::{DriverKind, Reply, Totals};
+use spec_world::Telling;
 
 /// The boxed drivers of a run, as the engine calls them.
 #[derive(Drop)]
@@ -43,5 +44,9 @@ impl Drivers for Roster {
 
     fn halted(&mut self, place: usize, instance: u32) {
         halt_at(&mut self.drivers, place, instance)
+    }
+
+    fn tell(&mut self, place: usize, instance: u32, telling: Telling) {
+        tell_at(&mut self.drivers, place, instance, telling)
     }
 }

@@ -3,12 +3,16 @@ ghost use Rattle.base_texts.specs.declared.stop.Stop.TheVariants as stop;
 ghost use Rattle.spec_run.specs.Drivers.{NothingHeld};
 ghost use Rattle.spec_run.specs.Run.{change_step, finish as finish_step, step};
 ghost use Rattle.run_loop.specs.Ending.{CanTell, Closing, IsQuenched, IsTelling};
+ghost use Rattle.run_loop.specs.Hearing.{Tells};
 ghost use Rattle.run_loop.specs.Parts.{CanTake, turn_step};
 ghost use Rattle.run_loop.specs.Runs.{AreRuns, RunsFit, arenas_of, boards_in, leaves_of};
 ghost use Rattle.spec_run.specs.Served.{Setup};
 ghost use Rattle.run_loop.specs.Steps.{CanCome, EventLeft, HaveRoom, event_side, kept_state};
 
+use crate::beginning::begin;
 use crate::boxed::Roster;
+use crate::copying::copy_event;
+use crate::hearing::{Message, header_of, hear};
 use crate::parts::{Part, Turn, make_part_of};
 use crate::quenching::quench_all;
 use crate::runs::Runs;
@@ -20,20 +24,6 @@ use spec_run::{Header, NodeFault, Note, RunFault};
 use spec_world::{Event, What};
 use std::alloc::Global;
 use std::mem;
-
-/// Begins a block: it has this header and nothing else, and its reserve is restored.
-fn begin(block: &mut Block, header: Header)
-    ensures header { block.new.header ≡ header }
-    ensures notes { let room = block.old.notes.full in
-        block.new.notes ≡ record { list = []; reserve = room; full = room } }
-    ensures facts { block.new.facts.items ≡ [] }
-    ensures entries { block.new.entries.items ≡ [] }
-{
-    block.header = header;
-    block.notes.clear();
-    block.facts.clear();
-    block.entries.clear();
-}
 
 /// Ends runs: quenches all runners, and no further event may come. It allocates no memory.
 fn stop<D: Drivers>(runs: &mut Runs, drivers: &mut D, notes: &mut Notes)
@@ -220,19 +210,19 @@ fn change_fact<D: Drivers>(
 fn handle_event<D: Drivers>(
     alloc: Global,
     runs: &mut Runs,
-    event: &Event,
+    event: Event,
     drivers: &mut D,
     block: &mut Block,
 ) -> Result<(), Stop<RunFault>>
-    requires runs { (of : Setup) × AreRuns of.tree of.world (D.states drivers.old) runs.old × CanCome of.world runs.old.last event.now }
+    requires runs { (of : Setup) × AreRuns of.tree of.world (D.states drivers.old) runs.old × CanCome of runs.old.last event }
     requires room { HaveRoom (arenas_of runs.old) block.old.notes }
-    ensures { (of : Setup) → AreRuns of.tree of.world (D.states drivers.old) runs.old → CanCome of.world runs.old.last event.now →
+    ensures { (of : Setup) → AreRuns of.tree of.world (D.states drivers.old) runs.old → CanCome of runs.old.last event →
         let old = event_side (D.states drivers.old) runs.old block.old in
         let new = event_side (D.states drivers.new) runs.new block.new in
-        EventLeft of result old new (step of.tree of.world event.now (kept_state of old)) }
+        EventLeft of result old new (step of.tree of.world event (kept_state of old)) }
 {
-    let at = event.at;
-    match event.what {
+    let Event { at, what } = event;
+    match what {
         What::Tick(runner) => {
             let part = Part::Tick;
             run_part(alloc, Turn { part, runner, at }, runs, drivers, block)
@@ -242,12 +232,74 @@ fn handle_event<D: Drivers>(
             run_part(alloc, Turn { part, runner, at }, runs, drivers, block)
         }
         What::Change { fact, value } => change_fact(fact, value, at, runs, drivers, block),
+        What::Tell {
+            runner,
+            uid,
+            telling,
+        } => {
+            let message = Message {
+                runner,
+                uid,
+                telling,
+                at,
+            };
+            hear(message, runs, drivers, block);
+            Ok(())
+        }
     }
 }
 
+/// Cuts off an event that tells a leaf something, before anything was told, since memory is wanting for it: all runners
+/// are quenched.
+fn cut_off<D: Drivers>(
+    event: &Event,
+    runs: &mut Runs,
+    drivers: &mut D,
+    block: &mut Block,
+) -> Result<(), Stop<RunFault>>
+    requires tells { Tells event.now.what }
+    requires runs { (of : Setup) × AreRuns of.tree of.world (D.states drivers.old) runs.old }
+    requires room { HaveRoom (arenas_of runs.old) block.old.notes }
+    ensures { (of : Setup) → AreRuns of.tree of.world (D.states drivers.old) runs.old →
+        let old = event_side (D.states drivers.old) runs.old block.old in
+        let new = event_side (D.states drivers.new) runs.new block.new in
+        EventLeft of result old new (step of.tree of.world event.now (kept_state of old)) }
+{
+    if let What::Tell {
+        runner,
+        uid,
+        telling,
+    } = &event.what
+    {
+        begin(block, header_of(*runner, *uid, telling, event.at));
+    }
+    stop(runs, drivers, &mut block.notes);
+    Err(Stop::NoMemory)
+}
+
 /// Makes an event of runs over any drivers. The error is the fault of a node, or want of memory;
-/// after either all runners are quenched, and no further event may come.
+/// after either all runners are quenched, and no further event may come. What a leaf is told is moved to its driver.
 pub fn run_event<D: Drivers>(
+    alloc: Global,
+    runs: &mut Runs,
+    event: Event,
+    drivers: &mut D,
+    block: &mut Block,
+) -> Result<(), Stop<RunFault>>
+    ghost of: { Setup }
+    requires runs { AreRuns of.tree of.world (D.states drivers.old) runs.old }
+    requires come { CanCome of runs.old.last event }
+    requires room { HaveRoom (arenas_of runs.old) block.old.notes }
+    ensures { let old = event_side (D.states drivers.old) runs.old block.old in
+        let new = event_side (D.states drivers.new) runs.new block.new in
+        EventLeft of result old new (step of.tree of.world event (kept_state of old)) }
+{
+    handle_event(alloc, runs, event, drivers, block)
+}
+
+/// As `run_event`, of an event that stays in its list: what a leaf is told is copied for its driver. Where memory is
+/// wanting for that, nothing was told.
+pub fn run_listed<D: Drivers>(
     alloc: Global,
     runs: &mut Runs,
     event: &Event,
@@ -256,13 +308,16 @@ pub fn run_event<D: Drivers>(
 ) -> Result<(), Stop<RunFault>>
     ghost of: { Setup }
     requires runs { AreRuns of.tree of.world (D.states drivers.old) runs.old }
-    requires come { CanCome of.world runs.old.last event.now }
+    requires come { CanCome of runs.old.last event.now }
     requires room { HaveRoom (arenas_of runs.old) block.old.notes }
     ensures { let old = event_side (D.states drivers.old) runs.old block.old in
         let new = event_side (D.states drivers.new) runs.new block.new in
         EventLeft of result old new (step of.tree of.world event.now (kept_state of old)) }
 {
-    handle_event(alloc, runs, event, drivers, block)
+    match copy_event(alloc, event) {
+        Ok(copied) => handle_event(alloc, runs, copied, drivers, block),
+        Err(NoMemory) => cut_off(event, runs, drivers, block),
+    }
 }
 
 /// Finishes a runner of runs over any drivers, at the time of the last event: its root is reset.
@@ -293,22 +348,23 @@ pub fn run_finish<D: Drivers>(
 }
 
 /// Makes an event of runs: the block then has its header, what happened, and the facts and entries
-/// that changed. A fault ends the runs, after a quench of all runners, and so does want of memory.
+/// that changed. A fault ends the runs, after a quench of all runners, and so does want of memory. What a leaf is told is
+/// moved to its driver, for which no memory is allocated.
 pub fn event(
     alloc: Global,
     runs: &mut Runs,
-    event: &Event,
+    event: Event,
     roster: &mut Vec<Box<dyn Driver>>,
     block: &mut Block,
 ) -> Result<(), Stop<RunFault>>
     requires runs { (of : Setup) × AreRuns of.tree of.world (map (λ b. state b) roster.old.items) runs.old
-        × CanCome of.world runs.old.last event.now }
+        × CanCome of runs.old.last event }
     requires room { HaveRoom (arenas_of runs.old) block.old.notes }
     ensures { (of : Setup) → AreRuns of.tree of.world (map (λ b. state b) roster.old.items) runs.old →
-        CanCome of.world runs.old.last event.now →
+        CanCome of runs.old.last event →
         let old = event_side (map (λ b. state b) roster.old.items) runs.old block.old in
         let new = event_side (map (λ b. state b) roster.new.items) runs.new block.new in
-        EventLeft of result old new (step of.tree of.world event.now (kept_state of old)) }
+        EventLeft of result old new (step of.tree of.world event (kept_state of old)) }
 {
     let mut held = Roster {
         drivers: mem::replace(roster, Vec::new(alloc)),

@@ -2,9 +2,13 @@
 //! and one roster of drivers; and laws of what is held at every moment.
 #![tactic(auto)]
 
+mod beginning;
 mod boxed;
+mod copying;
 mod counts;
 mod events;
+mod fitting;
+mod hearing;
 pub mod held;
 pub mod laws;
 mod making;
@@ -16,6 +20,7 @@ mod telling;
 
 pub use boxed::Roster;
 pub use counts::leaves;
-pub use events::{event, finish, run_event, run_finish};
+pub use events::{event, finish, run_event, run_finish, run_listed};
+pub use fitting::{event_fits, tellings_fit};
 pub use making::{make_planned_runs, make_runs, runs_of};
 pub use runs::{ReadyRunner, Runs, usable};

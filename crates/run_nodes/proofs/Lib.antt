@@ -11,3 +11,5 @@ pub mod Phases
 pub mod PortValues
 pub mod Settled
 pub mod Standing
+pub mod ToldLeaves
+pub mod ToldValues

@@ -1,6 +1,7 @@
 -- A call of a leaf's driver, compared with its definition, and what it leaves as it was.
 use Rattle.std.proofs.Common.{◌≡◌, ℕ, List, [], ◌++◌, length, map, get_or, set, Bool, false, Option, Some, Result, Err, refl, sym, ap, subst, ◌∙◌, append-nil, arith}
-use Rattle.std.specs.List.{All}
+use Rattle.std.specs.List.{All, IsDistinct}
+use Rattle.std.specs.Str.{bytes_eq}
 use Rattle.std.proofs.lemmas.List.{length-map}
 use Rattle.std.specs.Prelude.{is_some}
 use Rattle.std.proofs.Math.ListN.{get_or-map}
@@ -19,7 +20,7 @@ use Rattle.spec_tree.specs.declared.term.Term.{Term-F}
 use Rattle.spec_run.specs.Done.{Done, State}
 use Rattle.spec_run.specs.Drivers.{DriverState, is_held, roster_called}
 use Rattle.spec_run.specs.Leaf.{Answered, fresh, padded, start_of}
-use Rattle.base_tables.specs.Outputs.{since_after}
+use Rattle.base_tables.specs.Outputs.{outputs_given, since_after}
 use Rattle.spec_run.specs.Leaves.{leaf_call, phase_of, replied, reply_answer, reply_notes, row_of}
 use Rattle.spec_run.specs.Sites.{Meaning, View}
 use Rattle.spec_run.specs.Steps.{Given}
@@ -67,7 +68,7 @@ mark_by (reply.Broken cause) mark start before right = right
 pub record WasCalled (nodes : List Node) (uid : ℕ) (leaf : ReadyLeaf) (now : ℕ) (status : Status) (a : Answered) (before after : Scene) : Type 0 where
   pub here : leaf_at nodes uid ≡ Some leaf
   pub answered : a ≡ leaf_answer leaf status before.board before.facts before.drivers now
-  pub board : after.board ≡ board_left a.reply leaf.outputs a.outputs before.board
+  pub board : after.board ≡ board_left a.reply leaf (outputs_given a) before.board
   pub slots : length after.board ≡ length before.board
   pub facts : after.facts ≡ a.facts
   pub drivers : after.drivers ≡ roster_called before.drivers leaf.driver (phase_of status) leaf.instance a.instance
@@ -160,6 +161,7 @@ can_be_called term view uid nodes s leaf status now fits is phase =
       read = subst (λ n. All (IsSourceOf n) leaf.inputs) (sym fits.slots) k.read;
       few_inputs = omega (arith, k.few_inputs, ap length k.inputs, length-map {A = List ℕ} {B = Source});
       written = subst (λ n. All (IsSourceOf n) leaf.outputs) (sym fits.slots) k.written;
+      names = subst (IsDistinct bytes_eq) (sym k.told) k.once.distinct;
       table = fits.facts ∙ sym k.facts;
       served = fits.leaves.served uid leaf is;
       phase = phase;

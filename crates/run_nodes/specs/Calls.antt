@@ -1,6 +1,6 @@
 -- What a call of a leaf's driver needs, and what its outputs write.
-use Rattle.std.specs.Prelude.{◌≡◌, ◌≤◌, ℕ, ℤ, List, ◌∷◌, length, map, slice_set, Bool, true, false, Option, Some, None, Result, Ok, Err}
-use Rattle.std.specs.List.{All}
+use Rattle.std.specs.Prelude.{◌≡◌, ◌≤◌, ℕ, ℤ, List, [], ◌∷◌, length, map, slice_set, Bool, true, false, Option, Some, None, Result, Ok, Err, bytes_eq}
+use Rattle.std.specs.List.{All, IsDistinct}
 use Rattle.spec_script.specs.declared.cells.Seen.{Seen}
 use Rattle.base_texts.specs.declared.stop.Stop.{Stop}
 use Rattle.spec_script.specs.declared.value.Value.{Value}
@@ -13,11 +13,14 @@ use Rattle.spec_run.specs.declared.memory.Memo.TheVariants.{Nothing}
 use Rattle.spec_run.specs.declared.status.Answer.{Answer}
 use Rattle.spec_run.specs.declared.status.Status.{Status}
 use Rattle.spec_run.specs.declared.status.Status.TheVariants as status
+use Rattle.spec_world.specs.declared.world.ToldOut.{ToldOut}
 use Rattle.spec_run.specs.Drivers.{DriverState, roster_called}
 use Rattle.base_tables.specs.DriverCalls.{IsHeldBy, instance_at, roster_answer}
+use Rattle.base_tables.specs.Outputs.{Outputs}
 use Rattle.spec_run.specs.Leaf.{Answered, padded}
-use Rattle.spec_run.specs.Leaves.{phase_of, sight}
+use Rattle.spec_run.specs.Leaves.{phase_of, sight, told_for}
 use Rattle.spec_run.specs.Steps.{Given}
+use Rattle.run_driver.specs.Ready.{ready_told}
 use Rattle.run_driver.specs.Rules.{rule}
 use Rattle.run_arena.specs.declared.nodes.ReadyLeaf.{ReadyLeaf}
 use Rattle.run_arena.specs.declared.source.Source.{Source}
@@ -44,6 +47,21 @@ abbrev pub outputs_written : List Source → List ℤ → List (Option Value) �
 outputs_written (source ∷ sources) (n ∷ ns) board = outputs_written sources ns (number_written source n board)
 outputs_written _ _ board = board
 
+-- a value that is told is written where a slot is given
+abbrev pub value_written : Source → Option Value → List (Option Value) → List (Option Value)
+value_written (Slot slot) (Some value) board = slice_set board slot (Some value)
+value_written _ _ board = board
+
+-- the values that are told for outputs of these names are written in order
+abbrev pub told_written : List (List ℕ) → List Source → List ToldOut → List (Option Value) → List (Option Value)
+told_written (name ∷ names) (source ∷ sources) told board = told_written names sources told (value_written source (told_for told name) board)
+told_written _ _ told board = board
+
+-- the outputs of a leaf are written: the values that are told where it has names for them, and else the numbers
+abbrev pub leaf_written : List (List ℕ) → List Source → Outputs → List (Option Value) → List (Option Value)
+leaf_written [] sources outputs board = outputs_written sources outputs.numbers board
+leaf_written names sources outputs board = told_written names sources outputs.told board
+
 -- ---- Calls
 
 -- a driver is called to begin at an instance that is not held, and to go on at one that is held since a time not
@@ -57,6 +75,7 @@ pub record CanBeCalled (slots facts : ℕ) (drivers : List DriverState) (status 
   pub read : All (IsSourceOf slots) leaf.inputs
   pub few_inputs : length leaf.inputs ≤ 8
   pub written : All (IsSourceOf slots) leaf.outputs
+  pub names : IsDistinct bytes_eq (ready_told leaf.row.sort)
   pub table : facts ≡ leaf.row.facts
   pub served : IsServed drivers leaf
   pub phase : IsInPhase status (instance_at drivers leaf.driver leaf.instance) now
@@ -66,10 +85,10 @@ abbrev pub leaf_answer : ReadyLeaf → Status → List (Option Value) → List �
 leaf_answer leaf status board facts drivers now =
     roster_answer drivers leaf.driver leaf.instance (rule leaf.row) (phase_of status) (padded (seen_inputs board leaf.inputs)) facts now
 
--- the board after a reply with these outputs
-abbrev pub board_left : Reply → List Source → List ℤ → List (Option Value) → List (Option Value)
-board_left Success sources outputs board = outputs_written sources outputs board
-board_left _ sources outputs board = board
+-- the board after a reply of a leaf with these outputs
+abbrev pub board_left : Reply → ReadyLeaf → Outputs → List (Option Value) → List (Option Value)
+board_left Success leaf outputs board = leaf_written (ready_told leaf.row.sort) leaf.outputs outputs board
+board_left _ leaf outputs board = board
 
 -- the mark of a leaf after a reply: it is held while it runs, and a fault changes nothing
 abbrev pub mark_left : Reply → Bool → Bool

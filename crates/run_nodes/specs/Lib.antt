@@ -5,3 +5,4 @@ pub mod Here
 pub mod Meeting
 pub mod Needs
 pub mod Settles
+pub mod Tellings

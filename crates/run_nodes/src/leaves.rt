@@ -1,30 +1,32 @@
-ghost use Rattle.std.specs.Prelude.{◌≡◌, ◌+◌, ◌≤◌, ◌<◌, ◌++◌, ℕ, List, OnErr, OnOk, Some, length, replicate, slice_set};
-ghost use Rattle.std.specs.List.{All};
+ghost use Rattle.std.specs.Prelude.{◌≡◌, ◌+◌, ◌≤◌, ◌<◌, ◌++◌, ℕ, List, OnErr, OnOk, Some, bytes_eq, false, length, replicate, slice_set};
+ghost use Rattle.std.specs.List.{All, IsDistinct, position_or_len};
 ghost use Rattle.spec_script.specs.declared.cells.Seen.TheVariants.{Absent};
 ghost use Rattle.spec_run.specs.declared.leaf.Instance.{Instance as Held};
 ghost use Rattle.spec_run.specs.declared.memory.Memory.{Memory};
 ghost use Rattle.spec_tree.specs.declared.term.Term.{Term-F};
 ghost use Rattle.base_tables.specs.DriverCalls.{instance_at};
-ghost use Rattle.base_tables.specs.Outputs.{outputs_after};
+ghost use Rattle.base_tables.specs.Outputs.{outputs_after, outputs_given};
 ghost use Rattle.spec_run.specs.Leaf.{padded};
-ghost use Rattle.spec_run.specs.Leaves.{called, phase_of, reply_answer, reply_notes};
+ghost use Rattle.spec_run.specs.Leaves.{called, phase_of, reply_answer, reply_notes, told_for};
 ghost use Rattle.spec_run.specs.Sites.{Meaning, View};
 ghost use Rattle.run_driver.specs.Calls.{IsAskedIn, phase_asked};
+ghost use Rattle.run_driver.specs.Ready.{ready_told};
 ghost use Rattle.run_arena.specs.Ends.{StaysFit};
 ghost use Rattle.run_arena.specs.Nodes.{kept_at, leaf_at};
 ghost use Rattle.run_arena.specs.Rosters.{IsServed};
 ghost use Rattle.run_arena.specs.Sources.{IsSourceOf};
 ghost use Rattle.run_arena.specs.Stages.{IsSame, MeetsOn, scene_on};
 ghost use Rattle.run_nodes.specs.Calls.{CallableOn, IsInPhase, WasAsked, answer_on, answer_to, as_given, board_left, mark_left};
-ghost use Rattle.run_nodes.specs.Calls.{number_written, outputs_written, seen_inputs};
+ghost use Rattle.run_nodes.specs.Calls.{leaf_written, number_written, outputs_written, seen_inputs, told_written, value_written};
 ghost use Rattle.run_nodes.specs.Here.{FitsHereOn, call_on, in_stop};
 
 use crate::sources::seen_of;
-use base_texts::Stop;
+use base_texts::{Name, Stop};
 use run_arena::{Kept, Notes, ReadyLeaf, Source, Stage, set_held};
-use run_driver::{Call, CallPhase, Drivers, Inputs, Outs};
+use run_driver::{Call, CallPhase, Drivers, Inputs, Outs, ReadySort};
 use spec_run::{Answer, NodeFault, Note, Reply, Status};
-use spec_script::{Cells, Seen};
+use spec_script::{Cells, Seen, Value};
+use spec_world::ToldOut;
 use tree_board::Board;
 
 /// The inputs that a driver sees of a leaf without inputs.
@@ -44,8 +46,8 @@ fn see_inputs(sources: &[Source], board: &Board, inputs: &mut Inputs)
     }
 }
 
-/// Writes an output where a slot is given.
-fn write_output(source: &Source, n: i64, board: &mut Board)
+/// Writes a number where a slot is given.
+fn write_number(source: &Source, n: i64, board: &mut Board)
     requires { IsSourceOf (length board.old) source.now }
     ensures written { board.new ≡ number_written source.now n board.old }
     ensures slots { length board.new ≡ length board.old }
@@ -56,19 +58,104 @@ fn write_output(source: &Source, n: i64, board: &mut Board)
     }
 }
 
-/// Writes the outputs in order, each where a slot is given. It is not inlined since most leaves
-/// have none.
-#[inline(never)]
-fn write_outputs(sources: &[Source], outputs: &[i64], board: &mut Board)
+/// Writes the numbers in order, each where a slot is given.
+fn write_numbers(sources: &[Source], numbers: &[i64], board: &mut Board)
     requires { All (IsSourceOf (length board.old)) sources.now }
-    ensures written { board.new ≡ outputs_written sources.now outputs.now board.old }
+    ensures written { board.new ≡ outputs_written sources.now numbers.now board.old }
     ensures slots { length board.new ≡ length board.old }
 {
     for (place, source) in sources.iter().enumerate() {
-        let Some(n) = outputs.get(place) else {
+        let Some(n) = numbers.get(place) else {
             return;
         };
-        write_output(source, *n, board);
+        write_number(source, *n, board);
+    }
+}
+
+/// The place of the first value that was told for this name, and their number where none was.
+fn place_told(told: &[ToldOut], name: &Name) -> usize
+    ensures { result ≡ position_or_len (λ out. bytes_eq out.port name.now) told.now }
+{
+    for (place, out) in told.iter().enumerate() {
+        if out.port == *name {
+            return place;
+        }
+    }
+    told.len()
+}
+
+/// Takes the value that was told for this name, where there is one.
+fn take_value(told: &mut Vec<ToldOut>, name: &Name) -> Option<Value>
+    ensures value { result ≡ told_for told.old.items name.now }
+    ensures others { (other : List ℕ) → bytes_eq name.now other ≡ false → told_for told.new.items other ≡ told_for told.old.items other }
+{
+    let place = place_told(told, name);
+    if place >= told.len() {
+        return None;
+    }
+    let ToldOut { port: _, value } = told.remove(place);
+    Some(value)
+}
+
+/// Puts a value that was told where a slot is given, and drops it else.
+fn write_value(source: &Source, value: Option<Value>, board: &mut Board)
+    requires { IsSourceOf (length board.old) source.now }
+    ensures written { board.new ≡ value_written source.now value board.old }
+    ensures slots { length board.new ≡ length board.old }
+{
+    if let Source::Slot(slot) = source {
+        match value {
+            Some(Value::Int(n)) => board.put_int(*slot, n),
+            Some(Value::Text(text)) => board.put_text(*slot, text),
+            None => {}
+        }
+    }
+}
+
+/// Writes the values that were told for outputs of these names, in the order of the names, each where a slot is given:
+/// each value is moved, and nothing is copied.
+fn write_told(names: &[Name], sources: &[Source], mut told: Vec<ToldOut>, board: &mut Board)
+    requires read { All (IsSourceOf (length board.old)) sources.now }
+    requires names { IsDistinct bytes_eq names.now }
+    ensures written { board.new ≡ told_written names.now sources.now told.items board.old }
+    ensures slots { length board.new ≡ length board.old }
+{
+    for (place, source) in sources.iter().enumerate() {
+        let Some(name) = names.get(place) else {
+            return;
+        };
+        let value = take_value(&mut told, name);
+        write_value(source, value, board);
+    }
+}
+
+/// The outputs for which a leaf of a row may be told a value.
+fn names_told(sort: &ReadySort) -> &[Name]
+    ensures { result.now ≡ ready_told sort.now }
+{
+    match sort {
+        ReadySort::Told { outs } => outs.list(),
+        _ => &[],
+    }
+}
+
+/// Writes the outputs of a leaf, each where a slot is given: the values that were told where its row has names for them,
+/// and else the numbers. It is not inlined since most leaves have none.
+#[inline(never)]
+fn write_outputs(leaf: &ReadyLeaf, outs: &mut Outs, board: &mut Board)
+    requires read { All (IsSourceOf (length board.old)) leaf.now.outputs }
+    requires names { IsDistinct bytes_eq (ready_told leaf.now.row.sort) }
+    ensures written { board.new ≡ leaf_written (ready_told leaf.now.row.sort) leaf.now.outputs outs.old board.old }
+    ensures slots { length board.new ≡ length board.old }
+{
+    let sources = leaf.outputs.list();
+    match names_told(&leaf.row.get().sort) {
+        [] => write_numbers(sources, outs.numbers(), board),
+        names => {
+            if let Some(told) = outs.take_told() {
+                write_told(names, sources, told.into_vec(), board);
+            }
+        }
     }
 }
 
@@ -133,15 +220,16 @@ fn call_with_inputs<D: Drivers>(
 
 /// Writes the outputs of a call whose reply was SUCCESS.
 #[inline(always)]
-fn write_answer(reply: Reply, leaf: &ReadyLeaf, outs: &Outs, board: &mut Board)
-    requires { All (IsSourceOf (length board.old)) leaf.now.outputs }
-    ensures written { board.new ≡ board_left reply leaf.now.outputs outs.now board.old }
+fn write_answer(reply: Reply, leaf: &ReadyLeaf, outs: &mut Outs, board: &mut Board)
+    requires read { All (IsSourceOf (length board.old)) leaf.now.outputs }
+    requires names { IsDistinct bytes_eq (ready_told leaf.now.row.sort) }
+    ensures written { board.new ≡ board_left reply leaf.now outs.old board.old }
     ensures slots { length board.new ≡ length board.old }
 {
     match reply {
         Reply::Success => match leaf.outputs.list() {
             [] => {}
-            sources => write_outputs(sources, outs.list(), board),
+            _ => write_outputs(leaf, outs, board),
         },
         Reply::Running | Reply::Failure | Reply::Broken(_) => {}
     }
@@ -154,7 +242,7 @@ fn make_call<D: Drivers>(stage: &mut Stage<D>, leaf: &ReadyLeaf, status: Status)
     ensures reply { result ≡ (answer_on D.states stage.old status leaf.now).reply }
     ensures asked { WasAsked D.states status leaf.now (answer_on D.states stage.old status leaf.now) stage.old stage.new }
     ensures board { let a = answer_on D.states stage.old status leaf.now in
-        stage.new.board.now ≡ board_left a.reply leaf.now.outputs a.outputs stage.old.board.now }
+        stage.new.board.now ≡ board_left a.reply leaf.now (outputs_given a) stage.old.board.now }
     ensures slots { length stage.new.board.now ≡ length stage.old.board.now }
 {
     let mut outs = Outs::new();
@@ -162,7 +250,7 @@ fn make_call<D: Drivers>(stage: &mut Stage<D>, leaf: &ReadyLeaf, status: Status)
         [] => call_driver(stage, leaf, status, &NO_INPUTS, &mut outs),
         _ => call_with_inputs(stage, leaf, status, &mut outs),
     };
-    write_answer(reply, leaf, &outs, stage.board);
+    write_answer(reply, leaf, &mut outs, stage.board);
     reply
 }
 

@@ -1,5 +1,5 @@
-//! What one node of an arena does by itself: its scripts, its ports, the call of its driver, the end of its visit; and
-//! what stops: the halt and the reset of a node with all below it, and the quench of a runner.
+//! What one node of an arena does by itself: its scripts, its ports, the call of its driver, the end of its visit; what
+//! stops: the halt and the reset of a node with all below it, and the quench of a runner; and what a leaf is told.
 #![tactic(auto)]
 
 mod alone;
@@ -9,9 +9,11 @@ mod leaves;
 mod ports;
 mod scripts;
 mod sources;
+mod telling;
 
 pub use alone::visit_alone;
 pub use ending::{end_visit, note_change};
 pub use halting::{halt, quench, reset, reset_children};
 pub use ports::{picked, start_memo};
 pub use scripts::{goes_on, guards_answer, script_if_there};
+pub use telling::tell_leaf;

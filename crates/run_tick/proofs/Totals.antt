@@ -48,6 +48,7 @@ counted_most : (t : Totals) (ph : Phase) (instance : ℕ) → (counted t ph inst
 counted_most t phase.Start instance = omega (arith, raised_most t.starts)
 counted_most t phase.Running instance = omega (arith, raised_most t.runnings)
 counted_most t phase.Halted instance = omega arith
+counted_most t phase.Told instance = omega arith
 
 called_most : (ds : List DriverState) (place : ℕ) (ph : Phase) (instance : ℕ) (left : Instance) → begun_by (roster_called ds place ph instance left) ≤ begun_by ds + begins ph
 called_most ds place ph instance left =

@@ -114,6 +114,8 @@ header_line names (header.Halt runner at) = codes "halt " ++ decimal runner ++ c
 header_line names (header.Change fact value at) =
     codes "set " ++ fact_name names.facts fact ++ codes " " ++ signed_decimal value ++ codes " at " ++ decimal at ++ codes "\n"
 header_line names (header.Finish runner at) = codes "finish " ++ decimal runner ++ codes " at " ++ decimal at ++ codes "\n"
+header_line names (header.Tell runner uid succeeds at) =
+    codes "tell " ++ decimal runner ++ codes " " ++ decimal uid ++ (if succeeds then codes " SUCCESS at " else codes " FAILURE at ") ++ decimal at ++ codes "\n"
 
 -- the line of a note
 abbrev pub note_line : LineNames → Note → List ℕ

@@ -1,7 +1,6 @@
 -- What the run of a tree in a world gives.
 use Rattle.std.specs.Prelude.{ℕ, List, length, Option, Some, None}
 use Rattle.spec_run.specs.declared.join_fault.JoinFault.{JoinFault}
-use Rattle.spec_run.specs.Joins.{first_missing}
 use Rattle.spec_output.specs.Summaries.{load_line}
 use Rattle.spec_run.specs.Served.{roster_after_run}
 use Rattle.spec_program.specs.declared.course.Course.{Course}
@@ -13,7 +12,6 @@ use Rattle.spec_world.specs.declared.world.World.{World}
 use Rattle.spec_run.specs.Drivers.{DriverState}
 use Rattle.spec_output.specs.Lines.{line_names}
 use Rattle.spec_run.specs.Run.{Trace, run_over}
-use Rattle.spec_tree.specs.Terms.{leaf_ids}
 use Rattle.spec_outside.specs.Moments.{Moments}
 use Rattle.spec_output.specs.Rounds.{live_events, taken}
 use Rattle.spec_output.specs.Texts.{text_of}
@@ -74,7 +72,3 @@ run_output tree world g = traced tree world g (run_over tree world (g.events wor
 abbrev pub joined_output : Option JoinFault → Tree → World → Given → Output
 joined_output None tree world g = run_output tree world g
 joined_output (Some fault) tree world g = join_refused fault
-
--- what the first leaf in pre-order lacks that lacks a row or a driver
-abbrev pub lack_of : Tree → World → List DriverState → Option JoinFault
-lack_of tree world drivers = first_missing world.rows drivers (leaf_ids tree.term)

@@ -17,7 +17,8 @@ use Rattle.spec_world_file.specs.WorldFile.{ReadsWorld}
 use Rattle.spec_program.specs.Output.{AreUncalled, Begun, Output, Ending}
 use Rattle.spec_program.specs.Refused.{too_long, world_refused, tree_refused, rules_refused}
 use Rattle.spec_program.specs.Printed.{print_output}
-use Rattle.spec_program.specs.Courses.{Given, given, joined_output, lack_of}
+use Rattle.spec_program.specs.Courses.{Given, given, joined_output}
+use Rattle.spec_run.specs.Joins.{lack_of}
 use Rattle.spec_program.specs.declared.course.Course.TheVariants as course
 use Rattle.spec_program.specs.declared.file.File.TheVariants as file
 

@@ -93,11 +93,14 @@ driver_word driver.Condition = codes "Condition"
 driver_word driver.Timed = codes "Timed"
 driver_word driver.Replay = codes "Replay"
 driver_word driver.Gate = codes "Gate"
+driver_word driver.Told = codes "Told"
 
 -- the words of what a leaf lacks: a row of its ID, or a driver of a kind
 abbrev pub join_words : JoinFault → List ℕ
 join_words (join.NoRow id) = named (codes "NoRow") id
 join_words (join.NoDriver kind) = codes "NoDriver " ++ driver_word kind
+join_words (join.NoLeaf uid) = codes "NoLeaf " ++ decimal uid
+join_words (join.NoOutput uid) = codes "NoOutput " ++ decimal uid
 
 -- the words of a rules file's fault, or of the limit that the substituted tree passes
 abbrev pub rules_words : MockFault → List ℕ

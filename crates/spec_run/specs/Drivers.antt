@@ -6,7 +6,7 @@ use Rattle.spec_run.specs.declared.leaf.Phase.{Phase}
 use Rattle.spec_run.specs.declared.leaf.Totals.{Totals}
 use Rattle.spec_world.specs.declared.world.Row.{Row}
 use Rattle.spec_world.specs.declared.world.RowSort.{RowSort}
-use Rattle.spec_world.specs.declared.world.RowSort.TheVariants.{Is, When, Timed, Replay, Gate}
+use Rattle.spec_world.specs.declared.world.RowSort.TheVariants.{Is, When, Timed, Replay, Gate, Sensed, Told}
 use Rattle.spec_run.specs.Leaf.{fresh}
 use Rattle.spec_run.specs.declared.leaf.DriverKind.TheVariants as driver
 use Rattle.spec_run.specs.declared.leaf.Phase.TheVariants as phase
@@ -20,6 +20,8 @@ kind_of_sort (When test) = driver.Condition
 kind_of_sort (Timed ms fails) = driver.Timed
 kind_of_sort (Replay ms outcomes) = driver.Replay
 kind_of_sort (Gate test) = driver.Gate
+kind_of_sort Sensed = driver.Told
+kind_of_sort (Told outs) = driver.Told
 
 -- the kind of driver that serves a row
 abbrev pub kind_of_row : Row → DriverKind
@@ -31,6 +33,7 @@ same_kind driver.Condition driver.Condition = true
 same_kind driver.Timed driver.Timed = true
 same_kind driver.Replay driver.Replay = true
 same_kind driver.Gate driver.Gate = true
+same_kind driver.Told driver.Told = true
 same_kind _ _ = false
 
 -- ---- Totals
@@ -44,16 +47,18 @@ abbrev pub mark_of : Phase → ℕ
 mark_of phase.Start = 1
 mark_of phase.Running = 2
 mark_of phase.Halted = 3
+mark_of phase.Told = 4
 
 -- a trail after a call for an instance
 abbrev pub trail_after : ℕ → Phase → ℕ → ℕ
 trail_after trail phase instance = (1000003 * trail + 3 * instance + mark_of phase) % 2 ^ 64
 
--- the totals after a call for an instance: its own count rises, and the trail takes it
+-- the totals after a call for an instance: its own count rises, where it has one, and the trail takes it
 abbrev pub counted : Totals → Phase → ℕ → Totals
 counted t phase.Start instance = record t { starts = raised t.starts; trail = trail_after t.trail phase.Start instance }
 counted t phase.Running instance = record t { runnings = raised t.runnings; trail = trail_after t.trail phase.Running instance }
 counted t phase.Halted instance = record t { haltings = raised t.haltings; trail = trail_after t.trail phase.Halted instance }
+counted t phase.Told instance = record t { trail = trail_after t.trail phase.Told instance }
 
 -- before the first call
 abbrev pub no_calls : Totals

@@ -1,5 +1,5 @@
 -- The leaf rule: what a driver answers for a row of the world, and what the call leaves.
-use Rattle.std.specs.Prelude.{ℕ, ℤ, pos, ◌+◌, ◌+ℤ◌, ◌-◌, nat_lt, min, List, [], ◌∷◌, ◌++◌, map, length, replicate, slice_index_or, slice_set, Bool, true, false, not, if◌then◌else◌, Option, Some, None, option_map, unwrap_or, Result, Ok, Err}
+use Rattle.std.specs.Prelude.{ℕ, ℤ, pos, ◌+◌, ◌+ℤ◌, ◌-◌, nat_lt, min, List, [], ◌∷◌, ◌++◌, map, length, replicate, slice_index_or, slice_set, Bool, true, false, not, if◌then◌else◌, Option, Some, None, option_map, is_some, unwrap_or, Result, Ok, Err}
 use Rattle.std.specs.Ordering.{int_cmp}
 use Rattle.std.specs.Str.{bytes_eq}
 use Rattle.spec_script.specs.declared.cells.Seen.{Seen}
@@ -24,8 +24,11 @@ use Rattle.spec_world.specs.declared.world.How.TheVariants.{To, By}
 use Rattle.spec_world.specs.declared.world.Out.{Out}
 use Rattle.spec_world.specs.declared.world.Row.{Row}
 use Rattle.spec_world.specs.declared.world.RowSort.{RowSort}
-use Rattle.spec_world.specs.declared.world.RowSort.TheVariants.{Is, When, Timed, Replay, Gate}
+use Rattle.spec_world.specs.declared.world.RowSort.TheVariants.{Is, When, Timed, Replay, Gate, Sensed, Told}
 use Rattle.spec_world.specs.declared.world.Set.{Set}
+use Rattle.spec_world.specs.declared.world.Telling.{Telling}
+use Rattle.spec_world.specs.declared.world.Telling.TheVariants as telling
+use Rattle.spec_world.specs.declared.world.ToldOut.{ToldOut}
 use Rattle.spec_script.specs.declared.cells.Seen.TheVariants as seen
 use Rattle.spec_script.specs.declared.fault.ExecFault.TheVariants as exec
 use Rattle.spec_run.specs.declared.leaf.Phase.TheVariants as phase
@@ -95,6 +98,10 @@ pub data Way : Type 0 where
   Replays : (ms : ℕ) (outcomes : List Bool) → Way
   -- an action waits until this is true
   Waits : (test : Test) → Way
+  -- a condition answers what it was told last
+  Heeds : Way
+  -- an action waits until it is told how it ended
+  Obeys : Way
 
 -- what a row says of a leaf: how it answers, and what a completion does
 pub record Rule : Type 0 where
@@ -127,6 +134,8 @@ way_of places (When test) = Tests (test_of places test)
 way_of places (Timed ms fails) = Lasts ms (option_map (test_of places) fails)
 way_of places (Replay ms outcomes) = Replays ms outcomes
 way_of places (Gate test) = Waits (test_of places test)
+way_of places Sensed = Heeds
+way_of places (Told outs) = Obeys
 
 -- the rule of a row whose names have these places
 abbrev pub rule_by : (List ℕ → ℕ) → Row → Rule
@@ -142,21 +151,33 @@ rule_of names row = rule_by (place_of row.ports names) row
 
 -- ---- Instances
 
--- an instance that was never held
+-- an instance that was never held, and was told nothing
 abbrev pub fresh : Instance
-fresh = record { since = None; completions = 0 }
+fresh = record { since = None; completions = 0; told = None }
 
--- an instance that is held since a moment, or not held, with its completions
+-- an instance that is held since a moment
 abbrev pub held : ℕ → Instance → Instance
-held since instance = record { since = Some since; completions = instance.completions }
+held since instance = record { since = Some since; completions = instance.completions; told = instance.told }
 
--- an instance that is no longer held; its completions stay
+-- an instance that is no longer held, and is told nothing; its completions stay
 abbrev pub released : Instance → Instance
-released instance = record { since = None; completions = instance.completions }
+released instance = record { since = None; completions = instance.completions; told = None }
+
+-- an instance that is not held, and keeps what it was told
+abbrev pub unheld : Instance → Instance
+unheld instance = record { since = None; completions = instance.completions; told = instance.told }
+
+-- an instance after a quench: one that was held is released, and any other stays as it is
+abbrev pub let_go : Instance → Instance
+let_go instance = record { since = None; completions = instance.completions; told = if is_some instance.since then None else instance.told }
 
 -- an instance that has completed once more; completions are counted up to 64
 abbrev pub completed : Instance → Instance
-completed instance = record { since = None; completions = min (instance.completions + 1) 64 }
+completed instance = record { since = None; completions = min (instance.completions + 1) 64; told = None }
+
+-- an instance that is told something, in place of what it was told before
+abbrev pub told : Telling → Instance → Instance
+told telling instance = record { since = instance.since; completions = instance.completions; told = Some telling }
 
 -- the moment of the start: this one, or the one since which the instance is held
 abbrev pub start_of : Phase → Instance → ℕ → ℕ
@@ -176,10 +197,12 @@ pub record Answered : Type 0 where
   pub facts : List ℤ
   -- of a completion, in order; no other call gives any
   pub outputs : List ℤ
+  -- of the end of an action that was told SUCCESS: the values that were told with it
+  pub told : List ToldOut
 
 -- a reply that changes the instance at most
 abbrev pub replied : Reply → Instance → List ℤ → Answered
-replied reply instance facts = record { reply = reply; instance = instance; facts = facts; outputs = [] }
+replied reply instance facts = record { reply = reply; instance = instance; facts = facts; outputs = []; told = [] }
 
 -- goes on by what is true; a fault is the reply, and changes nothing
 abbrev pub judged : Result Bool Cause → Instance → List ℤ → (Bool → Answered) → Answered
@@ -214,7 +237,7 @@ worked_out rule inputs facts = outputs_of rule.outs inputs facts >>= λ outputs.
 
 -- SUCCESS with these outputs and these facts, or a fault, which changes nothing
 abbrev pub finished : Result (List ℤ × List ℤ) Cause → Instance → Instance → List ℤ → Answered
-finished (Ok (outputs, left)) before after facts = record { reply = Success; instance = after; facts = left; outputs = outputs }
+finished (Ok (outputs, left)) before after facts = record { reply = Success; instance = after; facts = left; outputs = outputs; told = [] }
 finished (Err cause) before after facts = replied (Broken cause) before facts
 
 -- completion: its outputs and its effects
@@ -237,6 +260,18 @@ abbrev pub lasting : ℕ → ℕ → ℕ → Instance → List ℤ → Answered 
 lasting since ms now instance facts ending =
     if nat_lt (now - since) ms then replied Running (held since instance) facts else ending
 
+-- what a condition was told: FAILURE where it was told nothing
+abbrev pub sensed : Option Telling → Reply
+sensed (Some (telling.Success outs)) = Success
+sensed _ = Failure
+
+-- an action that is told how it ended: RUNNING where it was told nothing, and else this end
+abbrev pub told_end : Option Telling → ℕ → Instance → List ℤ → Answered
+told_end None since instance facts = replied Running (held since instance) facts
+told_end (Some telling.Failure) since instance facts = replied Failure (released instance) facts
+told_end (Some (telling.Success outs)) since instance facts =
+    record { reply = Success; instance = released instance; facts = facts; outputs = []; told = outs }
+
 -- what a call leaves by the row's way, where the leaf began at this moment
 abbrev pub answer_by : Way → Rule → ℕ → Instance → List Seen → List ℤ → ℕ → Answered
 answer_by (Tests test) rule since instance inputs facts now =
@@ -248,6 +283,8 @@ answer_by (Replays ms outcomes) rule since instance inputs facts now =
 answer_by (Waits test) rule since instance inputs facts now =
     judged (test inputs facts) instance facts
     (λ b. if b then completion rule instance (released instance) inputs facts else replied Running (held since instance) facts)
+answer_by Heeds rule since instance inputs facts now = replied (sensed instance.told) (unheld instance) facts
+answer_by Obeys rule since instance inputs facts now = told_end instance.told since instance facts
 
 -- what a call by a rule leaves
 abbrev pub rule_answer : Rule → Phase → Instance → List Seen → List ℤ → ℕ → Answered

@@ -1,5 +1,5 @@
 -- What nodes without children do: a leaf calls its driver, a script node runs its code.
-use Rattle.std.specs.Prelude.{ℕ, ℤ, List, [], ◌∷◌, map, find, slice_index_or, slice_set, if◌then◌else◌, Option, Some, None, Result, Ok, Err}
+use Rattle.std.specs.Prelude.{ℕ, ℤ, List, [], ◌∷◌, map, find, slice_index_or, slice_set, if◌then◌else◌, Option, Some, None, option_map, Result, Ok, Err}
 use Rattle.std.specs.Str.{bytes_eq}
 use Rattle.spec_script.specs.declared.cells.Seen.{Seen}
 use Rattle.spec_script.specs.declared.cells.Seen.TheVariants as seen
@@ -24,6 +24,8 @@ use Rattle.spec_tree.specs.declared.term.PortValue.{PortValue}
 use Rattle.spec_tree.specs.declared.term.PortValue.TheVariants.{Key}
 use Rattle.spec_world.specs.declared.world.Out.{Out}
 use Rattle.spec_world.specs.declared.world.Row.{Row}
+use Rattle.spec_world.specs.declared.world.ToldOut.{ToldOut}
+use Rattle.spec_world.specs.Worlds.{outs_told}
 use Rattle.spec_run.specs.Done.{Done, State, done, follow}
 use Rattle.spec_run.specs.Leaf.{Answered, fresh, leaf_rule}
 use Rattle.spec_run.specs.Ports.{given_at, value_at}
@@ -70,6 +72,20 @@ abbrev pub with_outputs : Site → List Out → List ℤ → List (Option Value)
 with_outputs site (out ∷ outs) (n ∷ ns) board = with_outputs site outs ns (with_output site (given_at site out.port) n board)
 with_outputs site _ _ board = board
 
+-- the value that is told for an output of this name
+abbrev pub told_for : List ToldOut → List ℕ → Option Value
+told_for told name = option_map (λ (out : ToldOut). out.value) (find (λ (out : ToldOut). bytes_eq out.port name) told)
+
+-- a value that is told is written where the node's port of its name is given a key
+abbrev pub with_value : Site → Option PortValue → Option Value → List (Option Value) → List (Option Value)
+with_value site (Some (Key key)) (Some value) board = slice_set board (slot_at site key) (Some value)
+with_value site _ _ board = board
+
+-- the values that are told for outputs of these names are written in order
+abbrev pub with_told : Site → List (List ℕ) → List ToldOut → List (Option Value) → List (Option Value)
+with_told site [] told board = board
+with_told site (name ∷ names) told board = with_told site names told (with_value site (given_at site name) (told_for told name) board)
+
 -- the answer that a reply gives, or the fault of the leaf
 abbrev pub reply_answer : ℕ → Reply → Result Given NodeFault
 reply_answer uid reply.Running = Ok (record { answer = Running; memo = Nothing })
@@ -91,7 +107,7 @@ reply_notes phase uid (reply.Broken cause) = []
 
 -- on SUCCESS the outputs are written
 abbrev pub reply_board : Site → Row → Answered → List (Option Value) → Reply → List (Option Value)
-reply_board site row a board reply.Success = with_outputs site row.outs a.outputs board
+reply_board site row a board reply.Success = with_told site (outs_told row.sort) a.told (with_outputs site row.outs a.outputs board)
 reply_board site row a board _ = board
 
 -- what a call of a leaf's driver leaves

@@ -1,5 +1,5 @@
 -- A run: one step for each event, and then the finish of each runner.
-use Rattle.std.specs.Prelude.{ℕ, zero, suc, ℤ, ◌+◌, ◌-◌, List, [], ◌∷◌, ◌++◌, Bool, false, if◌then◌else◌, Option, Some, None, is_some, Result, Ok, Err, map, replicate, slice_get, slice_set}
+use Rattle.std.specs.Prelude.{ℕ, zero, suc, ℤ, ◌+◌, ◌-◌, List, [], ◌∷◌, ◌++◌, Bool, false, true, if◌then◌else◌, Option, Some, None, is_some, Result, Ok, Err, map, replicate, slice_get, slice_index_or, slice_set}
 use Rattle.std.specs.Ordering.{int_eq}
 use Rattle.std.specs.Str.{bytes_eq}
 use Rattle.spec_script.specs.declared.value.Value.{Value}
@@ -20,12 +20,15 @@ use Rattle.spec_run.specs.declared.status.Status.TheVariants as status
 use Rattle.spec_tree.specs.declared.term.Tree.{Tree}
 use Rattle.spec_world.specs.declared.world.Event.{Event}
 use Rattle.spec_world.specs.declared.world.Fact.{Fact}
+use Rattle.spec_world.specs.declared.world.Telling.{Telling}
+use Rattle.spec_world.specs.declared.world.Telling.TheVariants as telling
 use Rattle.spec_world.specs.declared.world.What.{What}
-use Rattle.spec_world.specs.declared.world.What.TheVariants.{Tick, Halt, Change}
+use Rattle.spec_world.specs.declared.world.What.TheVariants.{Tick, Halt, Change, Tell}
 use Rattle.spec_world.specs.declared.world.World.{World}
 use Rattle.spec_tree.specs.Boards.{main_scope, opening_board, slots}
 use Rattle.spec_run.specs.Done.{Call, Done, State, following, done, follow}
-use Rattle.spec_run.specs.Leaf.{fresh, released}
+use Rattle.spec_run.specs.Leaf.{fresh, let_go, released}
+use Rattle.spec_run.specs.Leaf as leaf
 use Rattle.spec_run.specs.Sites.{View, remembered}
 use Rattle.spec_tree.specs.Terms.{node_count}
 use Rattle.spec_run.specs.Visit.{change, idle, meaning}
@@ -122,7 +125,7 @@ quench_calls runner (r ∷ runners) = runner_calls runner (releases 0 r.instance
 
 -- all nodes become IDLE and their memos are cleared, and no instance is held; no script runs
 abbrev pub quenched_runner : Tree → Runner → Runner
-quenched_runner tree r = record { memory = idle tree.term; board = r.board; instances = map released r.instances }
+quenched_runner tree r = record { memory = idle tree.term; board = r.board; instances = map let_go r.instances }
 
 -- the state after a quench
 abbrev pub quenched : Tree → RunState → RunState
@@ -220,6 +223,30 @@ abbrev pub change_step : ℕ → ℤ → ℕ → RunState → Stepped
 change_step fact value at s =
     stepped (header.Change fact value at) [] [] None s (record { runners = s.runners; facts = slice_set s.facts fact value; last = at })
 
+-- whether a telling is of SUCCESS
+abbrev pub succeeds : Telling → Bool
+succeeds (telling.Success outs) = true
+succeeds telling.Failure = false
+
+-- the call by which the leaf of a uid, which has this instance, is told something
+abbrev pub tell_call : ℕ → Telling → Instance → Call
+tell_call uid telling instance = record { uid = uid; phase = phase.Told; left = leaf.told telling instance }
+
+-- a runner after a call that leaves this of an instance
+abbrev pub called : Runner → Call → Runner
+called r c = record { memory = r.memory; board = r.board; instances = slice_set r.instances c.uid c.left }
+
+-- the state after a call for a leaf of a runner that is there
+abbrev pub after_call : RunState → ℕ → Runner → Call → ℕ → RunState
+after_call s runner r c at = record { runners = slice_set s.runners (runner - 1) (called r c); facts = s.facts; last = at }
+
+-- a telling of a leaf of a runner, by what the runner keeps: the leaf's driver is told, and nothing else changes
+abbrev pub tell_step : Option Runner → ℕ → ℕ → Telling → ℕ → RunState → Stepped
+tell_step (Some r) runner uid telling at s =
+    let c : Call = tell_call uid telling (slice_index_or r.instances uid fresh) in
+    stepped (header.Tell runner uid (succeeds telling) at) [] (runner_calls runner (c ∷ [])) None s (after_call s runner r c at)
+tell_step None runner uid telling at s = idle_step (header.Tell runner uid (succeeds telling) at) s at
+
 -- the runner of a number, where there is one
 abbrev pub runner_at : RunState → ℕ → Option Runner
 runner_at s runner = slice_get s.runners (runner - 1)
@@ -229,6 +256,7 @@ abbrev pub step_by : What → Tree → World → ℕ → RunState → Stepped
 step_by (Tick runner) tree world at s = tick_step (runner_at s runner) tree world runner at s
 step_by (Halt runner) tree world at s = reset_step (runner_at s runner) (header.Halt runner at) tree world runner at s
 step_by (Change fact value) tree world at s = change_step fact value at s
+step_by (Tell runner uid telling) tree world at s = tell_step (runner_at s runner) runner uid telling at s
 
 -- one event of a world at its moment
 abbrev pub step : Tree → World → Event → RunState → Stepped

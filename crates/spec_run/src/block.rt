@@ -5,10 +5,30 @@ use spec_script::Value;
 /// The first line of a block: which event it is of, with its moment in milliseconds.
 #[derive(Clone, Copy, Debug, PartialEq, Eq)]
 pub enum Header {
-    Tick { runner: u8, at: u64 },
-    Halt { runner: u8, at: u64 },
-    Change { fact: u32, value: i64, at: u64 },
-    Finish { runner: u8, at: u64 },
+    Tick {
+        runner: u8,
+        at: u64,
+    },
+    Halt {
+        runner: u8,
+        at: u64,
+    },
+    Change {
+        fact: u32,
+        value: i64,
+        at: u64,
+    },
+    Finish {
+        runner: u8,
+        at: u64,
+    },
+    /// A leaf was told that it succeeded, or that it failed.
+    Tell {
+        runner: u8,
+        uid: u32,
+        succeeds: bool,
+        at: u64,
+    },
 }
 
 /// What one event gives to the trace.

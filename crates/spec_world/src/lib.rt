@@ -3,4 +3,4 @@
 
 mod world;
 
-pub use world::{Event, Fact, How, Out, Row, RowSort, Set, What, World};
+pub use world::{Event, Fact, How, Out, Row, RowSort, Set, Telling, ToldOut, What, World};

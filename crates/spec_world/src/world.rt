@@ -1,5 +1,5 @@
 use base_texts::{Items, Name};
-use spec_script::{Cmp, Expr};
+use spec_script::{Cmp, Expr, Value};
 
 /// A fact of the world and its opening value.
 #[derive(Debug, Drop)]
@@ -45,6 +45,10 @@ pub enum RowSort {
     Replay { ms: u64, outcomes: Items<bool> },
     /// An action that is held until the expression is not 0.
     Gate(Expr),
+    /// A condition that answers what it was told last.
+    Sensed,
+    /// An action that is held until it is told how it ended; the outputs for which it may be told a value.
+    Told { outs: Items<Name> },
 }
 
 /// A row of the world: what the leaves of its ID do.
@@ -59,19 +63,43 @@ pub struct Row {
     pub outs: Items<Out>,
 }
 
+/// A value that is told for the output of this name.
+#[derive(Debug, Drop)]
+pub struct ToldOut {
+    pub port: Name,
+    pub value: Value,
+}
+
+/// What a leaf is told from outside: how it ended, or whether it holds.
+#[derive(Debug, Drop)]
+pub enum Telling {
+    /// SUCCESS, with values for some of its outputs.
+    Success(Items<ToldOut>),
+    Failure,
+}
+
 /// What an event does.
-#[derive(Clone, Copy, Debug, PartialEq, Eq)]
+#[derive(Debug, Drop)]
 pub enum What {
     /// Ticks this runner.
     Tick(u8),
     /// Halts this runner.
     Halt(u8),
     /// Changes the fact of this number.
-    Change { fact: u32, value: i64 },
+    Change {
+        fact: u32,
+        value: i64,
+    },
+    /// Tells the leaf of this uid of a runner.
+    Tell {
+        runner: u8,
+        uid: u32,
+        telling: Telling,
+    },
 }
 
 /// An event at its moment, in milliseconds.
-#[derive(Clone, Copy, Debug, PartialEq, Eq)]
+#[derive(Debug, Drop)]
 pub struct Event {
     pub at: u64,
     pub what: What,

@@ -1,31 +1,37 @@
 -- World scripts: the lines and words of a file, what a line says, and the world that the lines make.
-use Rattle.std.specs.Prelude.{◌≡◌, ℕ, zero, suc, ◌+◌, ◌-◌, ◌==◌, Bool, true, false, not, ◌&&◌, ◌||◌, nat_lt, nat_le, nat_eq, if◌then◌else◌, MatchBool, List, [], ◌∷◌, ◌++◌, map, length, take, drop, codes, bytes_eq, ℤ, pos, nat_abs, Option, Some, None, is_some, option_map, option_and_then, option_to_list, unwrap_or, Result, Ok, Err, position, slice_get}
+use Rattle.std.specs.Prelude.{◌≡◌, ℕ, zero, suc, ◌+◌, ◌-◌, ◌*◌, ◌==◌, IsTrue, Bool, true, false, not, ◌&&◌, ◌||◌, nat_lt, nat_le, nat_eq, if◌then◌else◌, MatchBool, List, [], ◌∷◌, ◌++◌, map, length, take, drop, codes, bytes_eq, ℤ, pos, nat_abs, Option, Some, None, is_some, option_map, option_and_then, option_to_list, unwrap_or, Result, Ok, Err, position, slice_get}
 use Rattle.std.specs.Char.{is_ascii_digit}
 use Rattle.std.specs.List.{slice_split, list_all, list_any, ends_with, starts_with, prefix_len, suffix_len, position_or_len}
+use Rattle.std.specs.Str.{is_utf8}
 use Rattle.std.specs.Str.Parse.{signed_digits_value}
 use Rattle.spec_script.specs.Reading.{ReadsExpr}
 use Rattle.spec_script.specs.declared.syntax.Cmp.{Cmp}
 use Rattle.spec_script.specs.declared.syntax.Cmp.TheVariants.{Equal, Differ, Less, AtMost, More, AtLeast}
 use Rattle.spec_script.specs.declared.syntax.Expr.{Expr}
 use Rattle.spec_script.specs.Scripts.{names_of, texts_of}
+use Rattle.spec_script.specs.declared.value.Value.{Value}
+use Rattle.spec_script.specs.declared.value.Value.TheVariants.{Int, Text}
 use Rattle.spec_world.specs.declared.world.Fact.{Fact}
 use Rattle.spec_world.specs.declared.world.How.{How}
 use Rattle.spec_world.specs.declared.world.How.TheVariants.{To, By}
 use Rattle.spec_world.specs.declared.world.Row.{Row}
 use Rattle.spec_world.specs.declared.world.RowSort.{RowSort}
-use Rattle.spec_world.specs.declared.world.RowSort.TheVariants.{Is, When, Timed, Replay, Gate}
+use Rattle.spec_world.specs.declared.world.RowSort.TheVariants.{Is, When, Timed, Replay, Gate, Sensed, Told}
 use Rattle.spec_world.specs.declared.world.Event.{Event}
 use Rattle.spec_world.specs.declared.world.Out.{Out}
 use Rattle.spec_world.specs.declared.world.Set.{Set}
+use Rattle.spec_world.specs.declared.world.Telling.{Telling}
+use Rattle.spec_world.specs.declared.world.Telling.TheVariants as telling
+use Rattle.spec_world.specs.declared.world.ToldOut.{ToldOut}
 use Rattle.spec_world.specs.declared.world.What.{What}
-use Rattle.spec_world.specs.declared.world.What.TheVariants.{Tick, Halt, Change}
+use Rattle.spec_world.specs.declared.world.What.TheVariants.{Tick, Halt, Change, Tell}
 use Rattle.spec_world.specs.declared.world.World.{World}
 use Rattle.spec_world_file.specs.declared.world_fault.WorldFault.{WorldFault}
 use Rattle.spec_world_file.specs.declared.world_fault.WorldKind.{WorldKind}
 use Rattle.spec_world_file.specs.declared.world_fault.WorldKind.TheVariants.{Header, BadLine, Range, DoubleName, NoName, MomentBack, TooMany}
-use Rattle.spec_tree.specs.Limits.{last_moment, most_effects, most_events, most_facts, most_goals, most_needs, most_outcomes, most_outputs, most_ports, most_rows, most_runners}
+use Rattle.spec_tree.specs.Limits.{last_moment, most_effects, most_events, most_facts, most_goals, most_needs, most_outcomes, most_outputs, most_ports, most_rows, most_runners, most_text_bytes}
 use Rattle.spec_tree.specs.Names.{is_reserved}
-use Rattle.spec_world.specs.Worlds.{is_name, is_comparison, names_of_facts, ids_of_rows}
+use Rattle.spec_world.specs.Worlds.{is_name, is_comparison, is_modelled, names_of_facts, ids_of_rows, ports_told}
 use Rattle.spec_tree.specs.Numbers.{in_range, is_int, number_in}
 
 -- ---- Lines and words
@@ -121,16 +127,20 @@ pub data Line : Type 0 where
   TimedLine : (head : Head) (ms : ℤ) → Line
   ReplayLine : (head : Head) (ms : ℤ) (outcomes : List Bool) → Line
   GateLine : (head : Head) (expr : List ℕ) → Line
+  SensedLine : (head : Head) → Line
+  ToldLine : (head : Head) → Line
   FailsLine : (expr : List ℕ) → Line
   NeedsLine : (id : List ℕ) → Line
   SetsLine : (fact : List ℕ) (how : How) (value : ℤ) → Line
   OutLine : (port expr : List ℕ) → Line
+  NameLine : (port : List ℕ) → Line
   GoalLine : (id : List ℕ) → Line
   RunnersLine : (count : ℤ) → Line
   AtLine : (ms : ℤ) → Line
   TickLine : (runner : ℤ) → Line
   HaltLine : (runner : ℤ) → Line
   SetLine : (fact : List ℕ) (value : ℤ) → Line
+  TellLine : (runner uid : ℤ) (succeeds : Bool) (outs : List ℕ) → Line
 
 -- the comparison that a word names
 abbrev pub comparison_in : List ℕ → Option Cmp
@@ -177,10 +187,11 @@ sets_line text =
     then option_and_then (λ how. option_map (SetsLine (word 0 text) how) (number_in (word 2 text))) (how_in (word 1 text))
     else None
 
--- `PORT = EXPR`
+-- `PORT = EXPR`, or `PORT` alone
 abbrev pub out_line : List ℕ → Option Line
 out_line text =
-    if is_name (word 0 text) && bytes_eq (word 1 text) (codes "=") then Some (OutLine (word 0 text) (following 2 text)) else None
+    if is_name (word 0 text) && bytes_eq (word 1 text) (codes "=") then Some (OutLine (word 0 text) (following 2 text))
+    else name_line NameLine text
 
 -- `ID is NAME OP INT`, after `is`
 abbrev pub is_line : List ℕ → List ℕ → Option Line
@@ -189,11 +200,16 @@ is_line id text =
     then option_and_then (λ op. option_map (IsLine id (word 0 text) op) (number_in (word 2 text))) (comparison_in (word 1 text))
     else None
 
--- `ROW is NAME OP INT`, or `ROW when EXPR`
+-- nothing more, of the row that a word is
+abbrev pub told_line : (Head → Line) → List ℕ → List ℕ → Option Line
+told_line line row text = if length text == 0 then option_map line (head_in row) else None
+
+-- `ROW is NAME OP INT`, `ROW when EXPR` or `ROW told`
 abbrev pub condition_line : List ℕ → Option Line
 condition_line text =
     if bytes_eq (word 1 text) (codes "is") then is_line (word 0 text) (following 2 text)
     else if bytes_eq (word 1 text) (codes "when") then option_map (λ head. WhenLine head (following 2 text)) (head_in (word 0 text))
+    else if bytes_eq (word 1 text) (codes "told") then told_line SensedLine (word 0 text) (following 2 text)
     else None
 
 -- `MS`, of an action that lasts
@@ -207,13 +223,28 @@ replay_line text head =
     then option_and_then (λ ms. option_map (ReplayLine head ms) (outcomes_in (word 1 text))) (number_in (word 0 text))
     else None
 
--- `ROW timed MS`, `ROW replay MS OUTCOMES` or `ROW gate EXPR`
+-- `ROW timed MS`, `ROW replay MS OUTCOMES`, `ROW gate EXPR` or `ROW told`
 abbrev pub action_line : List ℕ → Option Line
 action_line text =
     if bytes_eq (word 1 text) (codes "timed") then option_and_then (timed_line (following 2 text)) (head_in (word 0 text))
     else if bytes_eq (word 1 text) (codes "replay") then option_and_then (replay_line (following 2 text)) (head_in (word 0 text))
     else if bytes_eq (word 1 text) (codes "gate") then option_map (λ head. GateLine head (following 2 text)) (head_in (word 0 text))
+    else if bytes_eq (word 1 text) (codes "told") then told_line ToldLine (word 0 text) (following 2 text)
     else None
+
+-- whether a word of a telling says SUCCESS or FAILURE
+abbrev pub success_in : List ℕ → Option Bool
+success_in word =
+    if bytes_eq word (codes "SUCCESS") then Some true
+    else if bytes_eq word (codes "FAILURE") then Some false
+    else None
+
+-- `RUNNER UID SUCCESS VALUES` or `RUNNER UID FAILURE`
+abbrev pub tell_line : List ℕ → Option Line
+tell_line text =
+    option_and_then (λ runner. option_and_then (λ uid. option_and_then (λ succeeds.
+    if succeeds || ends_after 3 text then Some (TellLine runner uid succeeds (following 3 text)) else None)
+    (success_in (word 2 text))) (number_in (word 1 text))) (number_in (word 0 text))
 
 -- what a line about goals, runners and events says, which begins with this word
 abbrev pub event_line : List ℕ → List ℕ → Option Line
@@ -224,6 +255,7 @@ event_line kind text =
     else if bytes_eq kind (codes "tick") then number_line TickLine text
     else if bytes_eq kind (codes "halt") then number_line HaltLine text
     else if bytes_eq kind (codes "set") then named_number SetLine text
+    else if bytes_eq kind (codes "tell") then tell_line text
     else None
 
 -- what a line says that begins with this word, by what follows the word
@@ -246,6 +278,99 @@ line_in text = if list_all is_line_byte text then line_by (word 0 text) (followi
 abbrev pub ReadsNumeric : List ℕ → Option Expr → Type 0
 ReadsNumeric text (Some e) = ReadsExpr text e × (texts_of e ≡ 0)
 ReadsNumeric text None = (e : Expr) → ReadsExpr text e → texts_of e ≡ 0 → ⊥
+
+-- ---- Values that are told
+
+-- one byte more before a text and what follows the text
+abbrev pub with_byte : ℕ → Option (List ℕ × List ℕ) → Option (List ℕ × List ℕ)
+with_byte b = option_map (λ found. (b ∷ found.0, found.1))
+
+-- the number that a hexadecimal digit stands for; its letters are small
+abbrev pub digit_value : ℕ → Option ℕ
+digit_value c = position (nat_eq c) (codes "0123456789abcdef")
+
+-- the byte of two such digits before a text
+abbrev pub with_digits : Option ℕ → Option ℕ → Option (List ℕ × List ℕ) → Option (List ℕ × List ℕ)
+with_digits (Some high) (Some low) found = with_byte (16 * high + low) found
+with_digits _ _ found = None
+
+-- a text from after its first quote on, and what follows its last one: in it `\'`, `\\`, `\n` and `\x` with two
+-- digits stand for a quote, a backslash, a line feed and any byte
+abbrev mutual
+  pub text_to_quote : List ℕ → Option (List ℕ × List ℕ)
+  text_to_quote [] = None
+  text_to_quote (c ∷ rest) =
+      if nat_eq c 39 then Some ([], rest)
+      else if nat_eq c 92 then after_backslash rest
+      else if nat_le 32 c && nat_le c 126 then with_byte c (text_to_quote rest)
+      else None
+
+  pub after_backslash : List ℕ → Option (List ℕ × List ℕ)
+  after_backslash [] = None
+  after_backslash (c ∷ rest) =
+      if nat_eq c 39 || nat_eq c 92 then with_byte c (text_to_quote rest)
+      else if nat_eq c 110 then with_byte 10 (text_to_quote rest)
+      else if nat_eq c 120 then after_x rest
+      else None
+
+  pub after_x : List ℕ → Option (List ℕ × List ℕ)
+  after_x (high ∷ low ∷ rest) = with_digits (digit_value high) (digit_value low) (text_to_quote rest)
+  after_x _ = None
+
+-- a text that was found, where it is UTF-8
+abbrev pub text_value : List ℕ × List ℕ → Option (Value × List ℕ)
+text_value found = if is_utf8 found.0 then Some (Text found.0, found.1) else None
+
+-- the value at the front of a text, and what follows it: a quoted text, or a number
+abbrev pub value_at_front : List ℕ → Option (Value × List ℕ)
+value_at_front text =
+    if starts_with nat_eq text (codes "'")
+    then option_and_then text_value (text_to_quote (drop 1 text))
+    else option_map (λ n. (Int n, drop (length (front_word text)) text)) (number_in (front_word text))
+
+-- nothing follows, or a gap
+abbrev pub is_apart : List ℕ → Bool
+is_apart [] = true
+is_apart (c ∷ rest) = is_gap c
+
+-- what stands before the first `=` of a text, and what stands after it
+abbrev pub before_sign : List ℕ → List ℕ
+before_sign text = take (position_or_len (λ b. b == 61) text) text
+
+abbrev pub after_sign : List ℕ → List ℕ
+after_sign text = drop (position_or_len (λ b. b == 61) text + 1) text
+
+-- a text begins with `NAME=VALUE` for this output, and this follows
+pub record BeginsWith (text : List ℕ) (out : ToldOut) (rest : List ℕ) : Type 0 where
+  pub port : out.port ≡ before_sign text
+  pub named : IsTrue (is_name (before_sign text))
+  pub value : value_at_front (after_sign text) ≡ Some (out.value, rest)
+  pub apart : IsTrue (is_apart rest)
+
+-- a text is `NAME=VALUE` for each of these outputs, with gaps between
+abbrev pub ReadsOuts : List ToldOut → List ℕ → Type 0
+ReadsOuts [] text = text ≡ []
+ReadsOuts (out ∷ outs) text = (rest : List ℕ) × BeginsWith text out rest × ReadsOuts outs (without_gap rest)
+
+-- a text is that for these outputs, or for none
+abbrev pub ReadsTold : List ℕ → Option (List ToldOut) → Type 0
+ReadsTold text (Some outs) = ReadsOuts outs text
+ReadsTold text None = (outs : List ToldOut) → ReadsOuts outs text → ⊥
+
+-- what is told
+abbrev pub telling_of : Bool → List ToldOut → Telling
+telling_of true outs = telling.Success outs
+telling_of false outs = telling.Failure
+
+-- whether a value is no number outside 64 bits
+abbrev pub is_small : Value → Bool
+is_small (Int n) = is_int n
+is_small (Text text) = true
+
+-- whether a value is a text that is too long
+abbrev pub is_long : Value → Bool
+is_long (Int n) = false
+is_long (Text text) = nat_lt most_text_bytes (length text)
 
 -- ---- The world so far
 
@@ -278,6 +403,10 @@ is_ms = in_range (pos 0) (pos last_moment)
 -- the number of one of so many runners
 abbrev pub is_runner : ℕ → ℤ → Bool
 is_runner runners = in_range (pos 1) (pos runners)
+
+-- a number that a node may have, in 32 bits; whether a node has it, the tree says
+abbrev pub is_uid : ℤ → Bool
+is_uid = in_range (pos 0) (pos 4294967295)
 
 -- the number of the fact of this name
 abbrev pub fact_number : List Fact → List ℕ → Option ℕ
@@ -370,6 +499,18 @@ fails_by _ row known e = Err BadLine
 abbrev pub row_with_fails : List Fact → Expr → Row → Result Row WorldKind
 row_with_fails facts e row = fails_by row.sort row (knows_all row.ports facts e) e
 
+-- an action that is told how it ended, with one more output for which it may be told a value
+abbrev pub with_name : RowSort → Row → List ℕ → Result Row WorldKind
+with_name (Told outs) row port =
+    if list_any (bytes_eq port) outs then Err DoubleName
+    else if nat_le most_outputs (length outs) then Err TooMany
+    else Ok (record row { sort = Told (outs ++ port ∷ []) })
+with_name _ row port = Err BadLine
+
+-- a row with one more of these outputs
+abbrev pub row_with_name : List ℕ → Row → Result Row WorldKind
+row_with_name port row = with_name row.sort row port
+
 -- a row with one more need, of the condition of this number
 abbrev pub row_with_need : ℕ → Row → Result Row WorldKind
 row_with_need n row =
@@ -427,6 +568,18 @@ abbrev pub placed : Bool → Result Reading WorldKind → Result Reading WorldKi
 placed true said = said
 placed false said = Err BadLine
 
+-- a telling of these outputs: each stands once, and no text is too long
+abbrev pub with_telling : List ToldOut → Result Reading WorldKind → Result Reading WorldKind
+with_telling outs said =
+    if repeats [] (ports_told outs) then Err DoubleName
+    else if nat_lt most_outputs (length outs) || list_any (λ out. is_long out.value) outs then Err TooMany
+    else said
+
+-- the open action where it is modelled, to which lines may add
+abbrev pub where_modelled : Option Row → Option Row
+where_modelled None = None
+where_modelled (Some row) = if is_modelled row.sort then Some row else None
+
 -- what becomes of the open action; where none is open, the line stands in a wrong place
 abbrev pub with_open : Option Row → Reading → (Row → Result Row WorldKind) → Result Reading WorldKind
 with_open None r add = Err BadLine
@@ -443,6 +596,17 @@ pub record SaysOf (text : List ℕ) (rule : Expr → Result Reading WorldKind) (
   pub reads : ReadsNumeric text expr
   pub is : said ≡ by_expr expr rule
 
+-- what is said by the outputs that a text tells, which is to be of that form
+abbrev pub by_outs : Option (List ToldOut) → (List ToldOut → Result Reading WorldKind) → Result Reading WorldKind
+by_outs None said = Err BadLine
+by_outs (Some outs) said = said outs
+
+-- this is said of the outputs that a text tells
+pub record SaysOfOuts (text : List ℕ) (rule : List ToldOut → Result Reading WorldKind) (said : Result Reading WorldKind) : Type 0 where
+  pub outs : Option (List ToldOut)
+  pub reads : ReadsTold text outs
+  pub is : said ≡ by_outs outs rule
+
 -- after a line; every line but those that add to an action closes the open one
 abbrev pub AfterLine : Reading → Line → Result Reading WorldKind → Type 0
 AfterLine r (FactLine name opening) said = said ≡ ranged (is_int opening) (with_fact name opening (closed r))
@@ -451,13 +615,16 @@ AfterLine r (WhenLine head expr) said = SaysOf expr (λ e. with_head head with_r
 AfterLine r (TimedLine head ms) said = said ≡ ranged (is_ms ms) (with_head head with_action (Timed (nat_abs ms) None) (closed r))
 AfterLine r (ReplayLine head ms outcomes) said = said ≡ ranged (is_ms ms) (with_head head with_action (Replay (nat_abs ms) outcomes) (closed r))
 AfterLine r (GateLine head expr) said = SaysOf expr (λ e. with_head head with_action (Gate e) (closed r)) said
+AfterLine r (SensedLine head) said = said ≡ with_head head with_row Sensed (closed r)
+AfterLine r (ToldLine head) said = said ≡ with_head head with_action (Told []) (closed r)
 AfterLine r (FailsLine expr) said = SaysOf expr (λ e. with_open r.open_row r (row_with_fails r.facts e)) said
 AfterLine r (NeedsLine id) said =
-    said ≡ placed (is_some r.open_row) (numbered (comparison_number r.rows id) (λ n. with_open r.open_row r (row_with_need n)))
+    said ≡ placed (is_some (where_modelled r.open_row)) (numbered (comparison_number r.rows id) (λ n. with_open r.open_row r (row_with_need n)))
 AfterLine r (SetsLine fact how value) said =
-    said ≡ placed (is_some r.open_row) (ranged (is_int value) (numbered (fact_number r.facts fact)
+    said ≡ placed (is_some (where_modelled r.open_row)) (ranged (is_int value) (numbered (fact_number r.facts fact)
     (λ n. with_open r.open_row r (row_with_effect (record { fact = n; how = how; value = value })))))
-AfterLine r (OutLine port expr) said = SaysOf expr (λ e. with_open r.open_row r (row_with_out r.facts port e)) said
+AfterLine r (OutLine port expr) said = SaysOf expr (λ e. with_open (where_modelled r.open_row) r (row_with_out r.facts port e)) said
+AfterLine r (NameLine port) said = said ≡ with_open r.open_row r (row_with_name port)
 AfterLine r (GoalLine id) said = said ≡ numbered (comparison_number (closed r).rows id) (λ n. with_goal n (closed r))
 AfterLine r (RunnersLine count) said =
     said ≡ placed (length r.events == 0) (ranged (in_range (pos 1) (pos most_runners) count) (with_runners (nat_abs count) (closed r)))
@@ -465,6 +632,9 @@ AfterLine r (AtLine ms) said = said ≡ ranged (is_ms ms) (with_moment (nat_abs 
 AfterLine r (TickLine runner) said = said ≡ ranged (is_runner (runners_of r) runner) (with_event (Tick (nat_abs runner)) (closed r))
 AfterLine r (HaltLine runner) said = said ≡ ranged (is_runner (runners_of r) runner) (with_event (Halt (nat_abs runner)) (closed r))
 AfterLine r (SetLine fact value) said = said ≡ ranged (is_int value) (numbered (fact_number r.facts fact) (λ n. with_event (Change n value) (closed r)))
+AfterLine r (TellLine runner uid succeeds outs) said = SaysOfOuts outs (λ told.
+    ranged (is_runner (runners_of r) runner && is_uid uid && list_all (λ out. is_small out.value) told)
+    (with_telling told (with_event (Tell (nat_abs runner) (nat_abs uid) (telling_of succeeds told)) (closed r)))) said
 
 -- after what may be a line of one of the forms
 abbrev pub AfterForm : Reading → Option Line → Result Reading WorldKind → Type 0

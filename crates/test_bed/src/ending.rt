@@ -6,7 +6,7 @@ use base_texts::{Name, NoMemory};
 use cli_program::{add_driver, bt};
 use cli_words::word_of;
 use run_driver::{Driver, hold_nothing};
-use run_leaves::{Conditions, Gate, Replay, Timed};
+use run_leaves::{Conditions, Gate, Replay, Timed, Told};
 use spec_program::Exit;
 use spec_run::Totals;
 use std::alloc::{AllocError, Global};
@@ -73,7 +73,7 @@ pub fn answer_with<K: Sink>(
     Ok(bt(alloc, names.as_slice(), shelf, sink, &mut clock, roster))
 }
 
-/// Answers these names with the four drivers of the modelled world.
+/// Answers these names with the five drivers of `bt`.
 fn answer_names(
     alloc: Global,
     words: &[Name],
@@ -86,6 +86,7 @@ fn answer_names(
     add_driver(&mut roster, Box::new(alloc, Timed::new(alloc))?)?;
     add_driver(&mut roster, Box::new(alloc, Replay::new(alloc))?)?;
     add_driver(&mut roster, Box::new(alloc, Gate::new(alloc))?)?;
+    add_driver(&mut roster, Box::new(alloc, Told::new(alloc))?)?;
     let exit = bt(alloc, words, shelf, sink, clock, &mut roster);
     Ok(Ending {
         exit,
@@ -94,7 +95,7 @@ fn answer_names(
     })
 }
 
-/// Answers these words with the four drivers of the modelled world.
+/// Answers these words with the five drivers of `bt`.
 pub fn answer(
     alloc: Global,
     words: &[&str],

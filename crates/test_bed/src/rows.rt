@@ -51,7 +51,7 @@ pub fn ran(alloc: Global, nodes: &str, lines: &str) -> Result<String, NoMemory> 
     answered(alloc, &TICK, nodes, lines, &[])
 }
 
-/// Runs these nodes in a world of these lines with the four drivers of the modelled world.
+/// Runs these nodes in a world of these lines with the five drivers of `bt`.
 pub fn run(
     alloc: Global,
     nodes: &str,

@@ -59,6 +59,23 @@ fn drivers_count_their_calls(rt: HostRuntime) -> Result<(), Fail> {
             "action R replay 0 FS / action A timed 100 / tick 1 / tick 1",
             "Done; Timed 1 0 1 trail 1000006; Replay 2 0 0 trail 1000004",
         ),
+        // A telling is in the trail, and no call that is counted.
+        (
+            "<Sequence><A/></Sequence>",
+            "action A told / tick 1 / tell 1 2 SUCCESS / tick 1",
+            "Done; Told 1 1 0 trail 1000010000023",
+        ),
+        (
+            "<Sequence><A/></Sequence>",
+            "action A told / tick 1 / halt 1",
+            "Done; Told 1 0 1 trail 1000006",
+        ),
+        // Where a telling is refused, no driver is called.
+        (
+            "<Sequence><A/></Sequence>",
+            "action A told / tick 1 / tell 1 2 SUCCESS / tell 1 1 SUCCESS",
+            "World",
+        ),
     ] {
         assert_eq!(rt;
             counted(rt.alloc(), nodes, lines)?.as_str(),
@@ -147,7 +164,7 @@ fn lacking(alloc: Global, nodes: &str, lines: &str) -> Result<String, NoMemory> 
 #[test]
 fn kinds_need_their_drivers(rt: HostRuntime) -> Result<(), Fail> {
     let lines =
-        "condition A when 1 / action T timed 0 / action R replay 0 S / action G gate 1 / tick 1";
+        "condition A when 1 / action T timed 0 / action R replay 0 S / action G gate 1 / condition S told / action O told / tick 1";
     for (nodes, want) in [
         (
             "<Sequence><A/><T/></Sequence>",
@@ -164,6 +181,14 @@ fn kinds_need_their_drivers(rt: HostRuntime) -> Result<(), Fail> {
         (
             "<Sequence><A/><G/></Sequence>",
             "refused world NoDriver Condition\nWorld, refused world NoDriver Gate\nWorld",
+        ),
+        (
+            "<Sequence><A/><S/></Sequence>",
+            "refused world NoDriver Condition\nWorld, refused world NoDriver Told\nWorld",
+        ),
+        (
+            "<Sequence><A/><O/></Sequence>",
+            "refused world NoDriver Condition\nWorld, refused world NoDriver Told\nWorld",
         ),
         // The first leaf without a row or a driver counts.
         (

@@ -109,10 +109,29 @@ fault 1 1 ZeroDivisor
 quench 1 1
 Fault, next 7";
 
+/// No event is used, so a leaf whose row is told is told nothing.
+const TOLD_NOTHING: &str = "\
+tick 1 at 5
+node 1 IDLE RUNNING
+call 2 start FAILURE
+node 2 IDLE FAILURE
+call 3 start RUNNING
+node 3 IDLE RUNNING
+root 1 RUNNING
+tick 1 at 9
+call 3 running RUNNING
+root 1 RUNNING
+finish 1 at 9
+node 2 FAILURE IDLE
+call 3 halted
+node 3 RUNNING IDLE
+node 1 RUNNING IDLE
+Done, next 9";
+
 /// Rounds, with the traces that they have at these times.
 #[test]
 fn rounds_have_the_moments_of_the_clock(rt: HostRuntime) -> Result<(), Fail> {
-    let table: [(&str, &str, &str, &[u64], &str); 4] = [
+    let table: [(&str, &str, &str, &[u64], &str); 6] = [
         // The events of the script are not used, and a time before the last one counts as the last
         // one.
         (
@@ -137,6 +156,20 @@ fn rounds_have_the_moments_of_the_clock(rt: HostRuntime) -> Result<(), Fail> {
             "3",
             &[1, 6, 7],
             ENDED_BY_A_FAULT,
+        ),
+        (
+            "<Fallback><C/><A/></Fallback>",
+            "condition C told / action A told / tell 1 2 SUCCESS / tell 1 3 SUCCESS",
+            "2",
+            &[5, 9],
+            TOLD_NOTHING,
+        ),
+        (
+            "<A/>",
+            "action A told / tell 1 2 SUCCESS",
+            "1",
+            &[5],
+            "refused world NoLeaf 2\nWorld, next 5",
         ),
     ];
     for (nodes, lines, rounds, moments, want) in table {

@@ -6,7 +6,7 @@ use std::alloc::Global;
 use std::test::Fail;
 use test_bed::{Ending, answer, shelf_of};
 
-/// Answers these words, which name no file, with the four drivers of the modelled world.
+/// Answers these words, which name no file, with the five drivers of `bt`.
 fn load(alloc: Global, words: &[&str], sink: &mut MemSink) -> Result<Ending, NoMemory> {
     let mut shelf = shelf_of(alloc, b"", b"", &[])?;
     let mut clock = MemClock::new(Vec::new(alloc));

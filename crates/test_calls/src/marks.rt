@@ -4,9 +4,10 @@ use base_outside::{MemSink, Sink, SinkFault};
 use base_texts::NoMemory;
 use cli_program::add_driver;
 use run_driver::{Call, CallPhase, Driver, FactTable, Outs};
-use run_leaves::{Conditions, Timed};
+use run_leaves::{Conditions, Timed, Told};
 use spec_program::Exit;
 use spec_run::{DriverKind, Reply, Totals};
+use spec_world::Telling;
 use std::alloc::{AllocError, Global};
 use std::cell::Cell;
 use std::rc::Rc;
@@ -58,6 +59,7 @@ struct Marked<D> {
     start: char,
     running: char,
     halted: char,
+    told: char,
 }
 
 impl<D: Driver> Driver for Marked<D> {
@@ -91,10 +93,15 @@ impl<D: Driver> Driver for Marked<D> {
         self.marks.mark(self.halted);
         self.driver.halted(instance)
     }
+
+    fn tell(&mut self, instance: u32, telling: Telling) {
+        self.marks.mark(self.told);
+        self.driver.tell(instance, telling)
+    }
 }
 
 /// The first words of blocks.
-const HEADERS: [&[u8]; 4] = [b"tick ", b"halt ", b"set ", b"finish "];
+const HEADERS: [&[u8]; 5] = [b"tick ", b"halt ", b"set ", b"tell ", b"finish "];
 
 /// A sink that marks the first line of each block, and otherwise does what the sink in it does.
 #[derive(Drop)]
@@ -119,7 +126,8 @@ impl<K: Sink> Sink for MarkedSink<K> {
 }
 
 /// Marks what a run does: `C` where a condition begins, `T`, `t` and `h` where a timed action begins,
-/// goes on and is halted, and `|` for the first line of a block.
+/// goes on and is halted, `O`, `o` and `d` where an action that is told how it ended begins, goes on and is told, and `|`
+/// for the first line of a block.
 fn run_marked(
     alloc: Global,
     nodes: &str,
@@ -137,6 +145,7 @@ fn run_marked(
         start: 'C',
         running: 'c',
         halted: 'k',
+        told: 'i',
     };
     add_driver(&mut roster, Box::new(alloc, driver)?)?;
     let driver = Marked {
@@ -145,6 +154,16 @@ fn run_marked(
         start: 'T',
         running: 't',
         halted: 'h',
+        told: 'i',
+    };
+    add_driver(&mut roster, Box::new(alloc, driver)?)?;
+    let driver = Marked {
+        driver: Told::new(alloc),
+        marks: marks.clone()?,
+        start: 'O',
+        running: 'o',
+        halted: 'k',
+        told: 'd',
     };
     add_driver(&mut roster, Box::new(alloc, driver)?)?;
     run_with(alloc, nodes, lines, &mut sink, &mut roster)
@@ -170,6 +189,11 @@ fn calls_in_time(rt: HostRuntime) -> Result<(), Fail> {
             "<ReactiveSequence><Ok/><B/></ReactiveSequence>",
             "fact ok 1 / condition Ok is ok == 1 / action B timed 100 / tick 1 / at 10 / set ok 0 / tick 1",
             "CT||Ch|| Done",
+        ),
+        (
+            "<Sequence><A/></Sequence>",
+            "action A told / tick 1 / tell 1 2 SUCCESS / tick 1",
+            "O|d|o|| Done",
         ),
     ] {
         assert_eq!(rt;

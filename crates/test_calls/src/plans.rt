@@ -138,6 +138,11 @@ fn plans_need_their_drivers(rt: HostRuntime) -> Result<(), Fail> {
             "refused world NoDriver Replay\nWorld",
         ),
         (
+            "fact x 1 / condition C is x == 1 / action T told / goal C",
+            "refused world NoDriver Condition\nWorld",
+            "refused world NoDriver Told\nWorld",
+        ),
+        (
             "fact x 0 / condition C is x == 1 / goal C",
             "refused world NoDriver Condition\nWorld",
             "<!-- no plan NoTemplate C -->\nNoPlan",

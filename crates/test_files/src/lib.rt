@@ -12,4 +12,6 @@ mod manifest;
 #[cfg(test)]
 mod mocks;
 #[cfg(test)]
+mod tellings;
+#[cfg(test)]
 mod worlds;

@@ -21,7 +21,18 @@ fn sort_text(alloc: Global, sort: &RowSort) -> Result<String, AllocError> {
             format!(in alloc; "replay {ms} {:?}", outcomes.list())
         }
         RowSort::Gate(_) => String::from_str(alloc, "gate"),
+        RowSort::Sensed => String::from_str(alloc, "told"),
+        RowSort::Told { outs } => told_text(alloc, outs.list()),
     }
+}
+
+/// The kind of an action that is told how it ended, with its outputs.
+fn told_text(alloc: Global, outs: &[Name]) -> Result<String, AllocError> {
+    let mut text = String::from_str(alloc, "told")?;
+    for out in outs {
+        text.push_str(format!(in alloc; " {}", shown(out))?.as_str())?;
+    }
+    Ok(text)
 }
 
 /// Adds the kind of a row, and what it needs.
@@ -212,7 +223,7 @@ fn whole_files(rt: HostRuntime) -> Result<(), Fail> {
 }
 
 /// Scripts, with their lines between slashes, and the world of each.
-static ACCEPTED: [(&str, &str); 11] = [
+static ACCEPTED: [(&str, &str); 14] = [
     (
         "fact x -9223372036854775808 / fact y 9223372036854775807",
         "x -9223372036854775808; y 9223372036854775807; [] 1",
@@ -249,6 +260,15 @@ static ACCEPTED: [(&str, &str); 11] = [
     (
         "at 1000000000000 / runners 16 / tick 16",
         "[] 16; 1000000000000 Tick(16)",
+    ),
+    ("condition C told", "C told []; [] 1"),
+    (
+        "condition C(p,q) told / action A(p)\ttold / out level / # of the arm /  / out note  / fact x 1",
+        "x 1; C,p,q told []; A,p told level note []; [] 1",
+    ),
+    (
+        "action A told / out p / action B told / out p / out A / out x",
+        "A told p []; B told p A x []; [] 1",
     ),
     (
         "action A(a,b,c,d,e,f,g,h) timed 1",
@@ -309,6 +329,28 @@ fact x 1 / action A timed 1 / sets x += => BadLine 4
 fact x 1 / action A timed 1 / sets x += 1 2 => BadLine 4
 fact x 1 / condition C is x == 1 / sets x += 1 => BadLine 4
 fact x 1 / action A timed 1 / out p 1 => BadLine 4
+condition C told 1 => BadLine 2
+condition C(p) Told => BadLine 2
+action A told 1 => BadLine 2
+action A() told => BadLine 2
+out level => BadLine 2
+condition C told / out level => BadLine 3
+action A timed 1 / out level => BadLine 3
+action A replay 1 S / out level => BadLine 3
+action A gate 1 / out level => BadLine 3
+action A told / out level = 3 => BadLine 3
+action A told / out level = level => BadLine 3
+action A told / out level = => BadLine 3
+action A told / out level 3 => BadLine 3
+action A told / out 3 => BadLine 3
+action A told / out => BadLine 3
+action A told / tick 1 / out level => BadLine 4
+action A told / fails 1 => BadLine 3
+action A told / fails x => BadLine 3
+fact x 1 / action A told / sets x = 1 => BadLine 4
+action A told / sets x = 9223372036854775808 => BadLine 3
+fact x 1 / condition C is x == 1 / action A told / needs C => BadLine 5
+action A told / needs C => BadLine 3
 goal => BadLine 2
 tick 1 / runners 1 => BadLine 3
 at x => BadLine 2
@@ -341,6 +383,10 @@ fact x 1 / action A timed 1 / sets x = 1 / sets x += 1 => DoubleName 5
 fact x 1 / action A timed 1 / sets x += 1 / sets x = 1 => DoubleName 5
 fact x 1 / action A timed 1 / sets x += 1 / sets x += 1 => DoubleName 5
 action A timed 1 / out p = 1 / out p = 1 => DoubleName 4
+action A told / out p / out q / out p => DoubleName 5
+action A told / condition A told => DoubleName 3
+condition Parallel told => DoubleName 2
+action A(p,p) told => DoubleName 2
 fact x 1 / condition C is x == 1 / goal C / goal C => DoubleName 5
 runners 1 / runners 1 => DoubleName 3
 condition A is x == 1 / fact x 1 => NoName 2
@@ -353,10 +399,12 @@ action A timed 1 / sets x = 1 => NoName 3
 action A timed 1 / sets x += 1 => NoName 3
 action A timed 1 / out p = p => NoName 3
 goal G => NoName 2
+condition C told / goal C => NoName 3
 condition W when 1 / goal W => NoName 3
 set x 1 => NoName 2
 at 5 / at 4 => MomentBack 3
 action A(a,b,c,d,e,f,g,h,i) timed 1 => TooMany 2
+condition C(a,b,c,d,e,f,g,h,i) told => TooMany 2
 fact 1x 9223372036854775808 => BadLine 2
 tick 1 / runners 17 => BadLine 3
 sets x = 9223372036854775808 => BadLine 2
@@ -381,7 +429,7 @@ fn first_faulty_lines(rt: HostRuntime) -> Result<(), Fail> {
 }
 
 /// Twice a pattern and its number of lines after a text, and the numbers or the fault.
-static LIMITS: [((&str, &str, usize), (&str, &str, usize), &str); 15] = [
+static LIMITS: [((&str, &str, usize), (&str, &str, usize), &str); 19] = [
     (("", "fact f# 1", 1024), ("", "", 0), "1024 0 0 0"),
     (("", "fact f# 1", 1025), ("", "", 0), "TooMany 1026"),
     (("", "action a# timed 1", 1024), ("", "", 0), "0 1024 0 0"),
@@ -430,6 +478,14 @@ static LIMITS: [((&str, &str, usize), (&str, &str, usize), &str); 15] = [
         ("", "", 0),
         ("\naction A timed 1", "out p# = 1", 9),
         "TooMany 11",
+    ),
+    (("", "", 0), ("\naction A told", "out p#", 8), "0 1 0 0"),
+    (("", "", 0), ("\naction A told", "out p#", 9), "TooMany 11"),
+    (("", "action a# told", 1025), ("", "", 0), "TooMany 1026"),
+    (
+        ("", "tick 1", 99_999),
+        ("", "tell 1 # FAILURE", 2),
+        "TooMany 100002",
     ),
     (("", "tick 1", 100_000), ("", "", 0), "0 0 0 100000"),
     (("", "tick 1", 100_001), ("", "", 0), "TooMany 100002"),

@@ -2,7 +2,7 @@
 use Rattle.std.proofs.Common.{◌≡◌, ℕ, ℤ, zero, suc, ◌+◌, ◌<◌, Bool, true, false, if◌then◌else◌, List, [], ◌∷◌, length, map, set, get_or, replicate, Option, Some, None, refl, sym, ap, subst, ◌∙◌, add-one, arith}
 use Rattle.std.specs.Prelude.{IfSome, option_map, unwrap_or}
 use Rattle.std.proofs.lemmas.Bool.{false≢true}
-use Rattle.std.proofs.lemmas.List.{get_or-map, get_or-set_same, length-map, length-set, map-set}
+use Rattle.std.proofs.lemmas.List.{get_or-map, get_or-set_same, length-map, length-set, map-set, set-get_or}
 use Rattle.spec_script.specs.declared.cells.Seen.{Seen}
 use Rattle.spec_run.specs.declared.leaf.DriverKind.{DriverKind}
 use Rattle.spec_run.specs.declared.leaf.DriverKind.TheVariants as driver
@@ -11,9 +11,11 @@ use Rattle.spec_run.specs.declared.leaf.Phase.{Phase}
 use Rattle.spec_run.specs.declared.leaf.Phase.TheVariants as phase
 use Rattle.spec_run.specs.declared.leaf.Reply.{Reply}
 use Rattle.spec_run.specs.Leaf.{Answered, Rule, fresh, start_of}
+use Rattle.spec_run.specs.Leaf as leaf
+use Rattle.spec_world.specs.declared.world.Telling.{Telling}
 use Rattle.base_tables.specs.Outputs.{since_after}
 use Rattle.spec_run.specs.Drivers.{DriverState, after_call, driver_at, new_driver, place_of_kind, prepared, roster_called, roster_prepared, same_kind}
-use Rattle.base_tables.specs.DriverCalls.{IsThere, instance_at, roster_answer}
+use Rattle.base_tables.specs.DriverCalls.{IsThere, instance_at, roster_answer, roster_told}
 use Rattle.base_tables.proofs.Calls.{held_while_running}
 use Rattle.run_driver.proofs.Preparing.{length_prepared}
 use Rattle.test_leaves.specs.Stages.{IsAtWork}
@@ -44,6 +46,13 @@ module _ (ds : List DriverState) (place : ℕ) (kind : DriverKind) (since : List
     moment_of =
         sym (get_or-map (λ (i : Instance). i.since) (driver_at ds place).table instance fresh None there.1)
         ∙ ap (λ (xs : List (Option ℕ)). get_or xs instance None) work.held
+
+    -- an instance that is told something is held since the same time
+    pub told_there : (telling : Telling) (new : List DriverState) → new ≡ roster_told ds place instance telling → IsAtWork new place kind since
+    told_there telling new is =
+        let at_work = after phase.Told (leaf.told telling (instance_at ds place instance)) (get_or since instance None) moment_of in
+        subst (λ (drivers : List DriverState). IsAtWork drivers place kind since) (sym is)
+        (subst (λ (times : List (Option ℕ)). IsAtWork (roster_told ds place instance telling) place kind times) (set-get_or since instance None) at_work)
 
     -- what is left after a call of `start` or `running` for a leaf that began at this time
     module _ (rule : Rule) (inputs : List Seen) (facts : List ℤ) (now : ℕ) (reply : Reply) (new : List DriverState) (moment : Option ℕ) where
@@ -79,6 +88,7 @@ same driver.Condition driver.Condition is = refl
 same driver.Timed driver.Timed is = refl
 same driver.Replay driver.Replay is = refl
 same driver.Gate driver.Gate is = refl
+same driver.Told driver.Told is = refl
 same _ _ is = absurd (false≢true is)
 
 -- if a driver was found, the one at its place is of this kind

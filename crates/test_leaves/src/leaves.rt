@@ -7,15 +7,16 @@ ghost use Rattle.spec_world.specs.Worlds.{IsValidWorld};
 ghost use Rattle.run_driver.specs.Rules.{rule};
 ghost use Rattle.test_leaves.specs.Stages.{IsAtWork};
 
-use base_texts::NoMemory;
+use base_texts::{Items, Name, NoMemory};
 use run_driver::{
-    Call, CallPhase, Driver, Drivers, FactTable, Inputs, Outs, ReadyRow, facts_of, kind_of, ready,
+    Call, CallPhase, Driver, Drivers, FactTable, Inputs, Outs, ReadyRow, ReadySort, facts_of,
+    kind_of, ready,
 };
-use run_leaves::{Conditions, Gate, Replay, Timed};
+use run_leaves::{Conditions, Gate, Replay, Timed, Told};
 use run_loop::Roster;
 use spec_run::{Reply, Totals};
-use spec_script::Seen;
-use spec_world::World;
+use spec_script::{Seen, Value};
+use spec_world::{Telling, ToldOut, World};
 use std::alloc::{AllocError, Global};
 use std::process::Abort;
 use world_reader::read_world;
@@ -234,14 +235,64 @@ fn halt<D: Drivers>(drivers: &mut D, stage: &mut Stage, instance: u32) -> bool
     }
 }
 
+/// What is told by `SUCCESS NAME=INT ..`; FAILURE by other words.
+fn telling_of(alloc: Global, words: &str) -> Result<Telling, NoMemory> {
+    let Some(outs) = words.strip_prefix("SUCCESS") else {
+        return Ok(Telling::Failure);
+    };
+    let mut told = Vec::new(alloc);
+    for out in outs.split_whitespace() {
+        let (port, n) = out.split_once('=').unwrap_or((out, ""));
+        told.push(ToldOut {
+            port: Name::copied(alloc, port.as_bytes())?,
+            value: Value::Int(n.parse().unwrap_or(0)),
+        })?;
+    }
+    Ok(Telling::Success(Items::of(told)))
+}
+
+/// Tells the leaf of an instance. False where there is no such instance, or where the row's leaves are not told what
+/// they answer.
+fn tell<D: Drivers>(drivers: &mut D, stage: &Stage, instance: u32, telling: Telling) -> bool
+    requires { IsAtWork (D.states drivers.old) stage.now.place (kind_of_way (rule stage.now.row).way) stage.now.since.items }
+    ensures { IsAtWork (D.states drivers.new) stage.now.place (kind_of_way (rule stage.now.row).way) stage.now.since.items }
+{
+    if instance as usize >= stage.since.len() {
+        return false;
+    }
+    match &stage.row.sort {
+        ReadySort::Sensed | ReadySort::Told { .. } => {
+            drivers.tell(stage.place, instance, telling);
+            true
+        }
+        _ => false,
+    }
+}
+
+/// Whether the leaf could be told what is written `1 SUCCESS p=5`, of the second instance.
+fn told_by<D: Drivers>(
+    alloc: Global,
+    drivers: &mut D,
+    stage: &Stage,
+    words: &str,
+) -> Result<bool, NoMemory>
+    requires { IsAtWork (D.states drivers.old) stage.now.place (kind_of_way (rule stage.now.row).way) stage.now.since.items }
+    ensures { IsAtWork (D.states drivers.new) stage.now.place (kind_of_way (rule stage.now.row).way) stage.now.since.items }
+{
+    let (instance, words) = words.split_once(' ').unwrap_or((words, ""));
+    let telling = telling_of(alloc, words)?;
+    let instance = instance.parse().unwrap_or(9);
+    Ok(tell(drivers, stage, instance, telling))
+}
+
 /// The answer to a call, which is written `1 at 5`, a visit of the second instance at the time 5,
-/// or `halt 1`.
+/// `halt 1`, or `tell 1 SUCCESS p=5`.
 fn answer_text<D: Drivers>(
     alloc: Global,
     drivers: &mut D,
     stage: &mut Stage,
     call: &str,
-) -> Result<String, AllocError>
+) -> Result<String, NoMemory>
     requires work { IsAtWork (D.states drivers.old) stage.old.place (kind_of_way (rule stage.old.row).way) stage.old.since.items }
     requires table { length stage.old.facts ≡ stage.old.row.facts }
     ensures work { IsAtWork (D.states drivers.new) stage.new.place (kind_of_way (rule stage.new.row).way) stage.new.since.items }
@@ -249,15 +300,20 @@ fn answer_text<D: Drivers>(
 {
     if let Some(instance) = call.strip_prefix("halt ") {
         let halted = halt(drivers, stage, instance.parse().unwrap_or(9));
-        return format!(in alloc; "halted {halted}");
+        return Ok(format!(in alloc; "halted {halted}")?);
+    }
+    if let Some(words) = call.strip_prefix("tell ") {
+        let told = told_by(alloc, drivers, stage, words)?;
+        return Ok(format!(in alloc; "told {told}")?);
     }
     let (instance, now) = call.split_once(" at ").unwrap_or((call, ""));
     let instance = instance.parse().unwrap_or(9);
     let now = now.parse().unwrap_or(0);
-    match visit(drivers, stage, instance, now) {
+    let answer = match visit(drivers, stage, instance, now) {
         Some(reply) => format!(in alloc; "{reply:?}"),
         None => format!(in alloc; "no call"),
-    }
+    };
+    Ok(answer?)
 }
 
 /// The answers to calls, in order.
@@ -266,7 +322,7 @@ fn answers_text<D: Drivers>(
     drivers: &mut D,
     stage: &mut Stage,
     calls: &str,
-) -> Result<String, AllocError>
+) -> Result<String, NoMemory>
     requires work { IsAtWork (D.states drivers.old) stage.old.place (kind_of_way (rule stage.old.row).way) stage.old.since.items }
     requires table { length stage.old.facts ≡ stage.old.row.facts }
     ensures work { IsAtWork (D.states drivers.new) stage.new.place (kind_of_way (rule stage.new.row).way) stage.new.since.items }
@@ -280,6 +336,25 @@ fn answers_text<D: Drivers>(
     Ok(text)
 }
 
+/// The values that were told last, as `; told p=5`; nothing where there is none.
+fn told_text(alloc: Global, told: Option<Items<ToldOut>>) -> Result<String, NoMemory> {
+    let mut text = String::new(alloc);
+    let told = told.unwrap_or(Items::of(Vec::new(alloc)));
+    if !told.list().is_empty() {
+        text.push_str("; told")?;
+    }
+    for out in told.list() {
+        let Ok(port) = str::from_utf8(out.port.list()) else {
+            continue;
+        };
+        match &out.value {
+            Value::Int(n) => text.push_str(format!(in alloc; " {port}={n}")?.as_str())?,
+            Value::Text(_) => text.push_str(format!(in alloc; " {port}=text")?.as_str())?,
+        }
+    }
+    Ok(text)
+}
+
 /// The facts, and the outputs that were made last.
 fn left_text(alloc: Global, stage: &Stage) -> Result<String, AllocError>
     requires { length stage.now.facts ≡ stage.now.row.facts }
@@ -288,7 +363,7 @@ fn left_text(alloc: Global, stage: &Stage) -> Result<String, AllocError>
     for fact in 0..stage.row.facts {
         text.push_str(format!(in alloc; " {}", stage.facts.get(fact))?.as_str())?;
     }
-    text.push_str(format!(in alloc; "; outputs {:?}", stage.outs.list())?.as_str())?;
+    text.push_str(format!(in alloc; "; outputs {:?}", stage.outs.numbers())?.as_str())?;
     Ok(text)
 }
 
@@ -298,19 +373,20 @@ fn calls_text<D: Drivers>(
     drivers: &mut D,
     stage: &mut Stage,
     calls: &str,
-) -> Result<String, AllocError>
+) -> Result<String, NoMemory>
     requires work { IsAtWork (D.states drivers.old) stage.old.place (kind_of_way (rule stage.old.row).way) stage.old.since.items }
     requires table { length stage.old.facts ≡ stage.old.row.facts }
     ensures { IsAtWork (D.states drivers.new) stage.new.place (kind_of_way (rule stage.new.row).way) stage.new.since.items }
 {
     let answers = answers_text(alloc, drivers, stage, calls)?;
     let left = left_text(alloc, stage)?;
+    let told = told_text(alloc, stage.outs.take_told())?;
     let held = if drivers.holds_nothing() {
         ""
     } else {
         "; held"
     };
-    format!(in alloc; "{answers}{left}{held}")
+    Ok(format!(in alloc; "{answers}{left}{told}{held}")?)
 }
 
 /// What calls of the last row of a world answer and leave, and how often they called its driver.
@@ -329,7 +405,7 @@ fn told<D: Drivers>(
     Ok((text?, totals))
 }
 
-/// What such calls answer and leave, and their counts, with the four drivers of the modelled world.
+/// What such calls answer and leave, and their counts, with the five drivers.
 fn row_told(
     rt: &impl Abort,
     alloc: Global,
@@ -342,6 +418,7 @@ fn row_told(
     drivers.push(Box::new(alloc, Timed::new(alloc))?)?;
     drivers.push(Box::new(alloc, Replay::new(alloc))?)?;
     drivers.push(Box::new(alloc, Gate::new(alloc))?)?;
+    drivers.push(Box::new(alloc, Told::new(alloc))?)?;
     let mut roster = Roster { drivers };
     told(rt, alloc, &mut roster, lines, inputs, calls)
 }
@@ -533,6 +610,122 @@ fn actions_answer_by_their_rows(rt: HostRuntime) -> Result<(), NoMemory> {
     )
 }
 
+/// Leaves that are told what they answer, with what their calls answer and leave.
+#[test]
+fn told_leaves_answer_what_they_were_told(rt: HostRuntime) -> Result<(), NoMemory> {
+    compare_rows(
+        &rt,
+        rt.alloc(),
+        &[
+            // an action is held until it is told how it ended
+            (
+                "action A told",
+                "",
+                "0 at 0, 0 at 9",
+                "Running; Running; facts; outputs []; held",
+            ),
+            (
+                "fact x 3 / action A told / out p / out q",
+                "",
+                "0 at 0, tell 0 SUCCESS p=7 q=-1, 0 at 5",
+                "Running; told true; Success; facts 3; outputs []; told p=7 q=-1",
+            ),
+            (
+                "action A told / out p",
+                "",
+                "0 at 0, tell 0 FAILURE, 0 at 5",
+                "Running; told true; Failure; facts; outputs []",
+            ),
+            // it ends once, and then waits again
+            (
+                "action A told / out p",
+                "",
+                "0 at 0, tell 0 SUCCESS p=7, 0 at 5, 0 at 5",
+                "Running; told true; Success; Running; facts; outputs []; told p=7; held",
+            ),
+            // before it begins
+            (
+                "action A told / out p",
+                "",
+                "tell 0 SUCCESS p=7, 0 at 5, 0 at 6",
+                "told true; Success; Running; facts; outputs []; told p=7; held",
+            ),
+            (
+                "action A told",
+                "",
+                "tell 0 FAILURE, 0 at 5, tell 0 SUCCESS, 0 at 6",
+                "told true; Failure; told true; Success; facts; outputs []",
+            ),
+            // the last telling counts
+            (
+                "action A told / out p / out q",
+                "",
+                "0 at 0, tell 0 FAILURE, tell 0 SUCCESS p=1 q=2, tell 0 SUCCESS q=3, 0 at 1",
+                "Running; told true; told true; told true; Success; facts; outputs []; told q=3",
+            ),
+            (
+                "action A told / out p",
+                "",
+                "tell 0 SUCCESS p=1, tell 0 FAILURE, 0 at 1",
+                "told true; told true; Failure; facts; outputs []",
+            ),
+            // a halt forgets what was told
+            (
+                "action A told / out p",
+                "",
+                "0 at 0, tell 0 SUCCESS p=1, halt 0, 0 at 1",
+                "Running; told true; halted true; Running; facts; outputs []; held",
+            ),
+            // each instance is told by itself
+            (
+                "action A told / out p",
+                "",
+                "tell 1 SUCCESS p=1, 0 at 0, 1 at 0, 1 at 1",
+                "told true; Running; Success; Running; facts; outputs []; told p=1; held",
+            ),
+            // a failure leaves the outputs that stand
+            (
+                "action A told / out p",
+                "",
+                "tell 0 SUCCESS p=1, 0 at 0, tell 0 FAILURE, 0 at 1",
+                "told true; Success; told true; Failure; facts; outputs []; told p=1",
+            ),
+            // a condition that was told nothing is false, and one that was told something keeps it
+            (
+                "condition C told",
+                "",
+                "0 at 0, 0 at 1",
+                "Failure; Failure; facts; outputs []",
+            ),
+            (
+                "condition C(p) told",
+                "text",
+                "tell 0 SUCCESS, 0 at 0, 0 at 5, tell 0 FAILURE, 0 at 6, 0 at 7",
+                "told true; Success; Success; told true; Failure; Failure; facts; outputs []",
+            ),
+            (
+                "condition C told",
+                "",
+                "tell 0 SUCCESS p=1, 0 at 0, 1 at 0",
+                "told true; Success; Failure; facts; outputs []",
+            ),
+            // other rows are told nothing
+            (
+                "fact x 1 / condition C is x == 1",
+                "",
+                "tell 0 FAILURE, 0 at 0",
+                "told false; Success; facts 1; outputs []",
+            ),
+            (
+                "action A timed 5",
+                "",
+                "0 at 0, tell 0 SUCCESS, tell 2 SUCCESS, 0 at 1",
+                "Running; told false; told false; Running; facts; outputs []; held",
+            ),
+        ],
+    )
+}
+
 /// Rows with effects that add to a fact.
 #[test]
 fn effects_add(rt: HostRuntime) -> Result<(), NoMemory> {
@@ -645,6 +838,19 @@ fn calls_are_counted(rt: HostRuntime) -> Result<(), NoMemory> {
             "0 at 0, 1 at 0, 0 at 5, halt 1, 0 at 9",
             (2, 2, 1),
             18_003_856_205_440_896_867,
+        ),
+        // a telling changes the trail alone
+        (
+            "action A told",
+            "0 at 0, tell 0 FAILURE, 0 at 1",
+            (1, 1, 0),
+            1_000_010_000_023,
+        ),
+        (
+            "condition C told",
+            "tell 1 SUCCESS, 1 at 0",
+            (1, 0, 0),
+            7_000_025,
         ),
         // a call with a fault counts too
         (

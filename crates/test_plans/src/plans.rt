@@ -43,11 +43,15 @@ goal G1
 goal G2
 ";
 
-/// Three actions that achieve a condition, one that threatens it, and one without an effect.
+/// Three actions that achieve a condition, one that threatens it, and two without an effect, of which one is told how it
+/// ended.
 const THREE: &str = "bt-world 1
 fact x 0
 condition G is x >= 1
 condition N is x != 5
+condition Seen told
+action Ask told
+out answer
 action A timed 0
 sets x = 1
 action Idle timed 0

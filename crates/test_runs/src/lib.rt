@@ -18,4 +18,6 @@ mod runners;
 #[cfg(test)]
 mod scripts;
 #[cfg(test)]
+mod told;
+#[cfg(test)]
 mod traces;

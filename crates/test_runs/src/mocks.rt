@@ -63,6 +63,17 @@ node 1 SUCCESS IDLE
 finish 1 at 0
 Done";
 
+/// The leaf that stands in the place of another one is told what it answers.
+const OTHER_TOLD: &str = "\
+tell 1 1 SUCCESS at 0
+tick 1 at 0
+call 1 start SUCCESS
+node 1 IDLE SUCCESS
+root 1 SUCCESS
+node 1 SUCCESS IDLE
+finish 1 at 0
+Done";
+
 const OTHER_LEAF: &str = "\
 tick 1 at 0
 call 1 start SUCCESS
@@ -73,7 +84,7 @@ finish 1 at 0
 Done";
 
 /// Nodes, the lines of a world, rules, and what is answered.
-static RUNS: [(&str, &str, &str, &str); 21] = [
+static RUNS: [(&str, &str, &str, &str); 23] = [
     (
         TALK,
         TALK_LINES,
@@ -175,6 +186,19 @@ static RUNS: [(&str, &str, &str, &str); 21] = [
         "tick 1",
         r#"{"TestNodeConfigs":{"New":{"return_status":"SUCCESS"}},"SubstitutionRules":{"A":"New"}}"#,
         "refused rules TooMuchWork\nRules",
+    ),
+    // Tellings are those of the tree that is run.
+    (
+        "<A/>",
+        "action B told / tell 1 1 SUCCESS / tick 1",
+        r#"{"SubstitutionRules":{"A":"B"}}"#,
+        OTHER_TOLD,
+    ),
+    (
+        "<A/>",
+        "action A told / tell 1 1 SUCCESS / tick 1",
+        r#"{"SubstitutionRules":{"A":"AlwaysSuccess"}}"#,
+        "refused world NoLeaf 1\nWorld",
     ),
 ];
 

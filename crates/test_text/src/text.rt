@@ -116,6 +116,24 @@ fn events_have_their_lines(rt: HostRuntime) -> Result<(), NoMemory> {
                 },
                 "Ok(()) finish 2 at 18446744073709551615\n",
             ),
+            (
+                Header::Tell {
+                    runner: 16,
+                    uid: 4294967295,
+                    succeeds: true,
+                    at: 0,
+                },
+                "Ok(()) tell 16 4294967295 SUCCESS at 0\n",
+            ),
+            (
+                Header::Tell {
+                    runner: 1,
+                    uid: 2,
+                    succeeds: false,
+                    at: 10,
+                },
+                "Ok(()) tell 1 2 FAILURE at 10\n",
+            ),
         ],
     )
 }

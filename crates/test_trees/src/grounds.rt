@@ -82,7 +82,7 @@ const ROOMS_PLAN: &str = "\
 Done";
 
 /// Words, the lines of a ground file, and what is answered.
-static GROUNDS: [(&[&str], &str, &str); 19] = [
+static GROUNDS: [(&[&str], &str, &str); 21] = [
     (&["ground", "W"], PLACES, SCRIPT),
     (&["gplan", "W"], PLACES, PLAN),
     (&["gplan", "W"], ROOMS, ROOMS_PLAN),
@@ -90,6 +90,17 @@ static GROUNDS: [(&[&str], &str, &str); 19] = [
         &["gplan", "W", "--expand", "0"],
         PLACES,
         "<!-- no plan Expansions 0 -->\nNoPlan",
+    ),
+    // Rows whose leaves are told what they answer are said once for all values too; a plan passes over them.
+    (
+        &["ground", "W"],
+        "sort room hall kitchen / forall X room / condition Lit_$X told / action Light_$X(speed) told / out note / end / tick 1 / tell 1 1 SUCCESS note='a b'",
+        "bt-world 1\ncondition Lit_hall told\naction Light_hall(speed) told\nout note\ncondition Lit_kitchen told\naction Light_kitchen(speed) told\nout note\ntick 1\ntell 1 1 SUCCESS note='a b'\nDone",
+    ),
+    (
+        &["gplan", "W"],
+        "sort place kitchen hall / fact at 0 / forall X place / condition At_$X is at == #X / action See_$X told / action Go_$X timed 100 / sets at = #X / end / goal At_hall",
+        PLAN,
     ),
     // A fault of the script is told by the line of the ground file, and `ground` writes the script all the same.
     (

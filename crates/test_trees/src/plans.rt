@@ -98,7 +98,7 @@ const TWO_ACTIONS: &str = "\
 Done";
 
 /// Words, the lines of a world, and what is answered.
-static PLANS: [(&[&str], &str, &str); 22] = [
+static PLANS: [(&[&str], &str, &str); 24] = [
     (&["plan", "W"], PICK, PICK_STEPS),
     (
         &["plan", "W"],
@@ -167,6 +167,17 @@ static PLANS: [(&[&str], &str, &str); 22] = [
         &["plan", "W"],
         "fact d 0 / condition G is d == 1 / action Try replay 0 FS / sets d = 1 / action Do timed 0 / sets d = 1 / goal G",
         TWO_ACTIONS,
+    ),
+    // Rows whose leaves are told what they answer are passed over, and no event is used.
+    (
+        &["plan", "W"],
+        "fact x 0 / condition G is x == 1 / condition C told / action T told / out a / action A timed 0 / sets x = 1 / goal G / tell 1 9 SUCCESS",
+        ONE_ACTION,
+    ),
+    (
+        &["plan", "W"],
+        "fact x 0 / condition G is x == 1 / action T told / goal G",
+        "<!-- no plan NoTemplate G -->\nNoPlan",
     ),
     (&["plan", "W"], "fact x 0", "refused world NoGoal\nWorld"),
     (&["plan", "none"], "goal G", "refused world Header 1\nWorld"),

@@ -15,7 +15,7 @@ const CHECK_THEN_ACT: &str =
     "fact x 1\ncondition A is x == 1\naction B timed 300\ntick 1\nat 299\ntick 1";
 
 /// Nodes and lines with the first refusal of each pair.
-static PAIRS: [(&str, &str, &str); 10] = [
+static PAIRS: [(&str, &str, &str); 21] = [
     ("<Sequence/>", "tick 1", "refused tree ChildCount 1\nTree"),
     (
         "<Inverter><A/></Inverter>",
@@ -49,6 +49,64 @@ static PAIRS: [(&str, &str, &str); 10] = [
         "<Sequence><Sequence><A/></Sequence><Q/></Sequence>",
         "fact x 1\ncondition A is x == 1",
         "refused world NoRow 'Q'\nWorld",
+    ),
+    // A telling names a leaf whose row is told: no other node, and none beyond the last one.
+    (
+        TWO_CHECKS,
+        "action A told\naction B timed 0\ntell 1 3 SUCCESS",
+        "refused world NoLeaf 3\nWorld",
+    ),
+    (
+        TWO_CHECKS,
+        "action A told\naction B told\ntell 1 1 SUCCESS",
+        "refused world NoLeaf 1\nWorld",
+    ),
+    (
+        TWO_CHECKS,
+        "action A told\naction B told\ntell 1 4 SUCCESS",
+        "refused world NoLeaf 4\nWorld",
+    ),
+    (
+        "<A/>",
+        "action A told\ntell 1 0 FAILURE",
+        "refused world NoLeaf 0\nWorld",
+    ),
+    (
+        "<A/>",
+        "action A timed 0\ntell 1 2 SUCCESS",
+        "refused world NoLeaf 2\nWorld",
+    ),
+    // It gives values for outputs of its row alone.
+    (
+        "<Sequence><A/></Sequence>",
+        "action A told\nout a\ntell 1 2 SUCCESS a=1 b=2",
+        "refused world NoOutput 2\nWorld",
+    ),
+    (
+        "<Sequence><A/></Sequence>",
+        "action A(a) told\ntell 1 2 SUCCESS a=1",
+        "refused world NoOutput 2\nWorld",
+    ),
+    (
+        "<Sequence><C/></Sequence>",
+        "condition C told\ntell 1 2 SUCCESS a=1",
+        "refused world NoOutput 2\nWorld",
+    ),
+    // The rows of the leaves come first, and then the tellings in their order.
+    (
+        TWO_CHECKS,
+        "action A told\ntell 1 1 SUCCESS",
+        "refused world NoRow 'B'\nWorld",
+    ),
+    (
+        TWO_CHECKS,
+        "action A told\naction B told\ntell 1 2 SUCCESS\ntell 1 3 SUCCESS a=1\ntell 1 1 SUCCESS",
+        "refused world NoOutput 3\nWorld",
+    ),
+    (
+        TWO_CHECKS,
+        "action A told\naction B told\ntick 1\ntell 1 9 SUCCESS\ntell 1 3 SUCCESS a=1",
+        "refused world NoLeaf 9\nWorld",
     ),
 ];
 

@@ -1,4 +1,4 @@
-ghost use Rattle.std.specs.Prelude.{◌≡◌, ◌++◌, OnOk, IsTrue, IsFalse, codes, decimal};
+ghost use Rattle.std.specs.Prelude.{◌≡◌, ◌++◌, if◌then◌else◌, OnOk, IsTrue, IsFalse, codes, decimal};
 ghost use Rattle.spec_output.specs.Lines.{LineNames, cause_words, entry_line, fact_line, header_line, note_line};
 ghost use Rattle.text_lines.specs.Notes.{is_long};
 
@@ -29,6 +29,31 @@ pub fn put_header(out: &mut Vec<u8>, header: Header, names: &Names) -> Result<()
             put_bytes(out, b"\n")
         }
         Header::Finish { runner, at } => put_runner_event(out, b"finish ", runner, at),
+        Header::Tell {
+            runner,
+            uid,
+            succeeds,
+            at,
+        } => {
+            put_bytes(out, b"tell ")?;
+            put_number(out, u64::from(runner))?;
+            put_bytes(out, b" ")?;
+            put_number(out, u64::from(uid))?;
+            put_bytes(out, told_words(succeeds))?;
+            put_number(out, at)?;
+            put_bytes(out, b"\n")
+        }
+    }
+}
+
+/// What a leaf was told, and what stands before the moment.
+fn told_words(succeeds: bool) -> &'static [u8]
+    ensures { result.now ≡ (if succeeds then codes " SUCCESS at " else codes " FAILURE at ") }
+{
+    if succeeds {
+        b" SUCCESS at "
+    } else {
+        b" FAILURE at "
     }
 }
 

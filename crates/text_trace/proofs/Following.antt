@@ -7,6 +7,7 @@ use Rattle.spec_world.specs.declared.world.Event.{Event}
 use Rattle.spec_world.specs.declared.world.What.TheVariants.{Tick}
 use Rattle.spec_world.specs.declared.world.World.{World}
 use Rattle.spec_run.specs.Run.{RunState, Stepped, Trace, before_rest, finish, finishes, run_from, step, then_rest}
+use Rattle.spec_run.specs.Served.{Setup}
 use Rattle.run_loop.specs.Steps.{CanCome}
 use Rattle.text_trace.specs.Going.{finishes_then}
 use Rattle.spec_output.specs.Rounds.{events_then, fault_in, live_events, nothing_more, round_of, ticks_from}
@@ -15,6 +16,10 @@ use Rattle.text_trace.specs.Traces.{CanAllCome, last_moment}
 pub before_same : (fault : Option RunFault) (d : Stepped) (f g : RunState → Trace) → f d.state ≡ g d.state → before_rest fault d f ≡ before_rest fault d g
 before_same (Some fault) d f g same = refl
 before_same None d f g same = ap (λ (t : Trace). (let all : Trace = record { blocks = d.block ∷ t.blocks; calls = d.calls ++ t.calls; state = t.state; fault = t.fault } in all)) same
+
+-- the event that comes next is the first of those that are left
+left_next : (events : List Event) (i : ℕ) (e : Event) → i < length events → e ≡ get_or events i e → drop i events ≡ e ∷ drop (i + 1) events
+left_next events i e low is = drop_more events i e low ∙ ap (λ (x : Event). x ∷ drop (i + 1) events) (sym is)
 
 module _ (tree : Tree) (world : World) where
   pub events_both : (events more : List Event) (rest : RunState → Trace) (s : RunState) → events_then tree world (events ++ more) rest s ≡ events_then tree world events (events_then tree world more rest) s
@@ -41,9 +46,9 @@ module _ (tree : Tree) (world : World) where
   events_front (e ∷ events) more s none = front_fault (step tree world e s).fault (step tree world e s) _ _ (events_front events more (step tree world e s).state) none
 
   -- the event that comes next
-  pub event_next : (events : List Event) (i : ℕ) (e : Event) (rest : RunState → Trace) (s : RunState) → i < length events →
-      events_then tree world (drop i events) rest s ≡ then_rest (step tree world (get_or events i e) s) (events_then tree world (drop (i + 1) events) rest)
-  event_next events i e rest s low = ap (λ (es : List Event). events_then tree world es rest s) (drop_more events i e low)
+  pub event_next : (events : List Event) (i : ℕ) (e : Event) (rest : RunState → Trace) (s : RunState) → i < length events → e ≡ get_or events i e →
+      events_then tree world (drop i events) rest s ≡ then_rest (step tree world e s) (events_then tree world (drop (i + 1) events) rest)
+  event_next events i e rest s low is = ap (λ (es : List Event). events_then tree world es rest s) (left_next events i e low is)
 
   -- none is left
   pub events_end : (events : List Event) (i : ℕ) (rest : RunState → Trace) (s : RunState) → length events ≤ i → events_then tree world (drop i events) rest s ≡ rest s
@@ -93,26 +98,25 @@ rounds_front tree world last xs ys s none =
 -- ---- What can come
 
 -- the event that comes next can, and those after it
-pub come_next : (world : World) (last : ℕ) (events : List Event) (i : ℕ) (e : Event) → i < length events → CanAllCome world last (drop i events) →
-    CanCome world last (get_or events i e) × CanAllCome world (get_or events i e).at (drop (i + 1) events)
-come_next world last events i e low can = subst (CanAllCome world last) (drop_more events i e low) can
+pub come_next : (of : Setup) (last : ℕ) (events : List Event) (i : ℕ) (e : Event) → i < length events → e ≡ get_or events i e → CanAllCome of last (drop i events) → CanCome of last e × CanAllCome of e.at (drop (i + 1) events)
+come_next of last events i e low is can = subst (CanAllCome of last) (left_next events i e low is) can
 
-pub last_next : (last : ℕ) (events : List Event) (i : ℕ) (e : Event) → i < length events → last_moment last (drop i events) ≡ last_moment (get_or events i e).at (drop (i + 1) events)
-last_next last events i e low = ap (last_moment last) (drop_more events i e low)
+pub last_next : (last : ℕ) (events : List Event) (i : ℕ) (e : Event) → i < length events → e ≡ get_or events i e → last_moment last (drop i events) ≡ last_moment e.at (drop (i + 1) events)
+last_next last events i e low is = ap (last_moment last) (left_next events i e low is)
 
 pub last_end : (last : ℕ) (events : List Event) (i : ℕ) → length events ≤ i → last_moment last (drop i events) ≡ last
 last_end last events i all = ap (last_moment last) (drop_all i events all)
 
 -- a round at a moment that is not below the last one
-ticks_can_come : (world : World) (last at runner many : ℕ) → last ≤ at → 1 ≤ runner → runner + many ≤ world.runners + 1 → CanAllCome world last (ticks_from runner many at)
-ticks_can_come world last at runner zero low first within = tt
-ticks_can_come world last at runner (suc others) low first within = (
-  ((first, omega (arith, within)), low),
-  ticks_can_come world at at (runner + 1) others (omega arith) (omega arith) (omega (arith, within)),
+ticks_can_come : (of : Setup) (last at runner many : ℕ) → last ≤ at → 1 ≤ runner → runner + many ≤ of.world.runners + 1 → CanAllCome of last (ticks_from runner many at)
+ticks_can_come of last at runner zero low first within = tt
+ticks_can_come of last at runner (suc others) low first within = (
+  ((first, omega (arith, within)), low, refl),
+  ticks_can_come of at at (runner + 1) others (omega arith) (omega arith) (omega (arith, within)),
 )
 
-pub round_can_come : (world : World) (last at : ℕ) → last ≤ at → CanAllCome world last (round_of world.runners at)
-round_can_come world last at low = ticks_can_come world last at 1 world.runners low (omega arith) (omega arith)
+pub round_can_come : (of : Setup) (last at : ℕ) → last ≤ at → CanAllCome of last (round_of of.world.runners at)
+round_can_come of last at low = ticks_can_come of last at 1 of.world.runners low (omega arith) (omega arith)
 
 ticks_last : (last at runner many : ℕ) → last ≤ at → last_moment last (ticks_from runner many at) ≤ at
 ticks_last last at runner zero low = low

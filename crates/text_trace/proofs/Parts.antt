@@ -5,7 +5,6 @@ use Rattle.std.specs.Result.{IsErr, IsErrAnd}
 use Rattle.std.proofs.lemmas.Bool.{cases_lt}
 use Rattle.spec_run.specs.declared.block.Block.{Block}
 use Rattle.spec_world.specs.declared.world.Event.{Event}
-use Rattle.spec_world.specs.declared.world.World.{World}
 use Rattle.spec_run.specs.Drivers.{DriverState}
 use Rattle.spec_run.specs.Run.{RunnerCall, RunState, Trace}
 use Rattle.spec_outside.specs.Appending.{AppendedPrefix}
@@ -308,5 +307,5 @@ begun of drivers runs u can is room =
     record { are = are; few = omega (arith, are.fit.many, can.is_valid_world.few_runners); room = subst (λ (r : Runs). HaveRoom (arenas_of r) u.block.notes) (sym is) room }
 
 -- .. over the same events
-pub come_as : (world : World) (a b : Runs) (events : List Event) → a ≡ b → CanAllCome world b.last events → CanAllCome world a.last events
-come_as world a b events is can = subst (λ (r : Runs). CanAllCome world r.last events) (sym is) can
+pub come_as : (of : Setup) (a b : Runs) (events : List Event) → a ≡ b → CanAllCome of b.last events → CanAllCome of a.last events
+come_as of a b events is can = subst (λ (r : Runs). CanAllCome of r.last events) (sym is) can

@@ -4,17 +4,13 @@ use Rattle.std.specs.List.{flat_map}
 use Rattle.base_texts.specs.declared.stop.Stop.{Stop}
 use Rattle.base_texts.specs.declared.stop.Stop.TheVariants as stop
 use Rattle.spec_run.specs.declared.block.Block.{Block as Shown}
-use Rattle.spec_run.specs.declared.block.Header.{Header}
-use Rattle.spec_run.specs.declared.fault.NodeFault.{NodeFault}
 use Rattle.spec_run.specs.declared.fault.RunFault.{RunFault}
-use Rattle.spec_run.specs.declared.note.Note.{Note}
 use Rattle.spec_tree.specs.declared.term.Tree.{Tree}
 use Rattle.spec_world.specs.declared.world.What.{What}
-use Rattle.spec_world.specs.declared.world.What.TheVariants.{Tick, Halt, Change}
 use Rattle.spec_world.specs.declared.world.World.{World}
-use Rattle.spec_run.specs.Done.{Call}
 use Rattle.spec_run.specs.Drivers.{DriverState, NothingHeld}
-use Rattle.spec_run.specs.Run.{RunState, Runner, Stepped, Trace, before_rest, reset_step, runner_at, step_by, then_rest, tick_step, told}
+use Rattle.spec_run.specs.Run.{RunState, Stepped, Trace, before_rest, step_by, then_rest}
+use Rattle.run_laws.proofs.Runs.{step_last as step_moment}
 use Rattle.spec_outside.specs.Appending.{AppendedPrefix}
 use Rattle.base_outside.proofs.Appends.{AppendedPrefix-longer, AppendedPrefix-nothing}
 use Rattle.text_lines.specs.declared.stop.TextStop.{TextStop}
@@ -145,26 +141,8 @@ event_makes of old new d made result left shows watcher = record {
 
 -- ---- The moment of an event
 
-told_at : {A : Type 0} (answer : Result A NodeFault) (header : Header) (tree : Tree) (runner : ℕ) (notes : List Note) (calls : List Call) (s after : RunState) →
-    (told answer header tree runner notes calls s after).state.last ≡ after.last
-told_at (Ok x) header tree runner notes calls s after = refl
-told_at (Err f) header tree runner notes calls s after = refl
-
-tick_at : (o : Option Runner) (tree : Tree) (world : World) (runner at : ℕ) (s : RunState) → (tick_step o tree world runner at s).state.last ≡ at
-tick_at None tree world runner at s = refl
-tick_at (Some r) tree world runner at s = told_at _ _ tree runner _ _ s _
-
-reset_at : (o : Option Runner) (h : Header) (tree : Tree) (world : World) (runner at : ℕ) (s : RunState) → (reset_step o h tree world runner at s).state.last ≡ at
-reset_at None h tree world runner at s = refl
-reset_at (Some r) h tree world runner at s = told_at _ h tree runner _ _ s _
-
-step_at : (what : What) (tree : Tree) (world : World) (at : ℕ) (s : RunState) → (step_by what tree world at s).state.last ≡ at
-step_at (Tick runner) tree world at s = tick_at (runner_at s runner) tree world runner at s
-step_at (Halt runner) tree world at s = reset_at (runner_at s runner) _ tree world runner at s
-step_at (Change fact value) tree world at s = refl
-
 -- after an event the last moment is its own
 pub last_is : (made : Result (Unit {0}) (Stop RunFault)) (tree : Tree) (world : World) (before after : List DriverState) (runs : Runs) (block : Block) (what : What) (at : ℕ) (s : RunState) →
     made ≡ Ok tt → EventEnds made tree.term before after runs block (step_by what tree world at s) → runs.last ≡ at
-last_is (Ok done) tree world before after runs block what at s is ends = ap (λ (x : RunState). x.last) ends.1.state ∙ step_at what tree world at s
+last_is (Ok done) tree world before after runs block what at s is ends = ap (λ (x : RunState). x.last) ends.1.state ∙ step_moment what tree world at s
 last_is (Err e) tree world before after runs block what at s is ends = cc

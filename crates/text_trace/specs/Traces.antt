@@ -3,7 +3,6 @@ use Rattle.std.specs.Prelude.{◌≡◌, ℕ, List, [], ◌∷◌, Option, Some,
 use Rattle.std.specs.List.{flat_map}
 use Rattle.spec_run.specs.declared.fault.RunFault.{RunFault}
 use Rattle.spec_world.specs.declared.world.Event.{Event}
-use Rattle.spec_world.specs.declared.world.World.{World}
 use Rattle.spec_run.specs.Drivers.{DriverState, NothingHeld}
 use Rattle.spec_run.specs.Run.{RunState, Trace, run_from}
 use Rattle.base_tables.specs.Runnable.{IsRunnable}
@@ -23,11 +22,11 @@ use Rattle.text_trace.specs.Watches.{Watched, WasShown}
 
 -- ---- Premises
 
--- each of these events names a runner or a fact that is there, at no moment before this one and those of the events
--- before it
-abbrev pub CanAllCome : World → ℕ → List Event → Type 0
-CanAllCome world last [] = Unit {0}
-CanAllCome world last (event ∷ events) = CanCome world last event × CanAllCome world event.at events
+-- each of these events names a runner, a fact or a leaf that is there, at no moment before this one and those of the
+-- events before it
+abbrev pub CanAllCome : Setup → ℕ → List Event → Type 0
+CanAllCome of last [] = Unit {0}
+CanAllCome of last (event ∷ events) = CanCome of last event × CanAllCome of event.at events
 
 -- the moment of the last of these events, or this one where there is none
 abbrev pub last_moment : ℕ → List Event → ℕ

@@ -11,7 +11,7 @@ use crate::showing::show_event;
 use crate::underway::Underway;
 use crate::watch::Watch;
 use run_driver::Drivers;
-use run_loop::run_event;
+use run_loop::run_listed;
 use spec_world::Event;
 use std::alloc::Global;
 use text_lines::TextStop;
@@ -26,13 +26,13 @@ fn make_event<D: Drivers, W: Watch>(
 ) -> Result<Ended, TextStop>
     ghost of: { Setup }
     requires runs { CanGoOn of (D.states drivers.old) underway.old }
-    requires come { CanCome of.world underway.old.runs.last next.now }
+    requires come { CanCome of underway.old.runs.last next.now }
     ensures made { let old = stage (D.states drivers.old) (W.state watch.old) underway.old in
         let new = stage (D.states drivers.new) (W.state watch.new) underway.new in
         Makes of result old new (λ rest. then_rest (step of.tree of.world next.now (state_at of old)) rest) }
     ensures last { result ≡ Ok Ended.Done → underway.new.runs.last ≡ next.now.at }
 {
-    let made = run_event(
+    let made = run_listed(
         alloc,
         &mut underway.runs,
         next,
@@ -52,7 +52,7 @@ pub fn follow<D: Drivers, W: Watch>(
 ) -> Result<Ended, TextStop>
     ghost of: { Setup }
     requires runs { CanGoOn of (D.states drivers.old) underway.old }
-    requires come { CanAllCome of.world underway.old.runs.last events.now }
+    requires come { CanAllCome of underway.old.runs.last events.now }
     ensures made { let old = stage (D.states drivers.old) (W.state watch.old) underway.old in
         let new = stage (D.states drivers.new) (W.state watch.new) underway.new in
         Makes of result old new (λ rest. events_then of.tree of.world events.now rest (state_at of old)) }

@@ -28,7 +28,7 @@ fn run_script<D: Drivers, W: Watch>(
 ) -> Result<Ended, TextStop>
     ghost of: { Setup }
     requires runs { CanGoOn of (D.states drivers.old) underway.old }
-    requires come { CanAllCome of.world underway.old.runs.last events.now }
+    requires come { CanAllCome of underway.old.runs.last events.now }
     ensures made { let old = stage (D.states drivers.old) (W.state watch.old) underway.old in
         let new = stage (D.states drivers.new) (W.state watch.new) underway.new in
         Makes of result old new (λ rest.
@@ -55,7 +55,7 @@ pub fn run_events<D: Drivers, W: Watch>(
 ) -> Result<Ended, TextStop>
     ghost of: { Setup }
     requires runs { CanRun of (D.states drivers.old) runs }
-    requires come { CanAllCome of.world runs.last events.now }
+    requires come { CanAllCome of runs.last events.now }
     ensures leaves { let old = side (D.states drivers.old) (W.state watch.old) in
         let new = side (D.states drivers.new) (W.state watch.new) in
         Leaves result (arenas_of runs) old new (trace_of of old.drivers runs events.now) }

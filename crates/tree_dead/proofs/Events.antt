@@ -1,5 +1,5 @@
 -- Each event, and so each run, names no dead node, and leaves the dead nodes IDLE.
-use Rattle.std.proofs.Common.{◌≡◌, ℕ, ℤ, zero, suc, ◌+◌, ◌-◌, List, [], ◌∷◌, map, replicate, Bool, true, false, is_some, option_map, slice_get, slice_set, Option, Some, None, Result, Ok, Err, refl, sym, ap, ◌∙◌, arith}
+use Rattle.std.proofs.Common.{◌≡◌, ℕ, ℤ, zero, suc, ◌+◌, ◌-◌, List, [], ◌∷◌, map, replicate, Bool, true, false, is_some, option_map, slice_get, slice_index_or, slice_set, Option, Some, None, Result, Ok, Err, refl, sym, ap, ◌∙◌, arith}
 use Rattle.std.specs.List.{AllByRecursion}
 use Rattle.std.proofs.lemmas.Bool.{cond_both}
 use Rattle.spec_run.specs.declared.block.Block.{Block}
@@ -14,15 +14,17 @@ use Rattle.spec_run.specs.declared.note.Note.TheVariants.{Root, Faulted}
 use Rattle.spec_run.specs.declared.status.Answer.{Answer}
 use Rattle.spec_tree.specs.declared.term.Tree.{Tree}
 use Rattle.spec_world.specs.declared.world.Event.{Event}
+use Rattle.spec_world.specs.declared.world.Telling.{Telling}
 use Rattle.spec_world.specs.declared.world.What.{What}
-use Rattle.spec_world.specs.declared.world.What.TheVariants.{Tick, Halt, Change}
+use Rattle.spec_world.specs.declared.world.What.TheVariants.{Tick, Halt, Change, Tell}
 use Rattle.spec_world.specs.declared.world.World.{World}
 use Rattle.spec_run.specs.Done.{Call, Done, State, done}
-use Rattle.spec_run.specs.Leaf.{fresh, released}
-use Rattle.spec_run.specs.Run.{RunState, Runner, Stepped, Trace, before_rest, finish, finishes, fresh_runner, releases, opening, quench_notes, quenched, quenched_notes, quenched_runner, reset_step, root_reset, root_told, root_view, run_from, run_over, runner_at, settled, state_of, step, step_by, tick_step, ticked, told, with_runner}
+use Rattle.spec_run.specs.Leaf.{fresh, let_go, released}
+use Rattle.spec_run.specs.Run.{RunState, Runner, Stepped, Trace, before_rest, called, finish, finishes, fresh_runner, releases, opening, quench_notes, quenched, quenched_notes, quenched_runner, reset_step, root_reset, root_told, root_view, run_from, run_over, runner_at, settled, state_of, step, step_by, tell_call, tell_step, tick_step, ticked, told, with_runner}
 use Rattle.spec_run.specs.Sites.{View, remembered}
 use Rattle.spec_run.specs.Visit.{change, idle, meaning}
 use Rattle.run_laws.proofs.Entries.{equal_entry, mapped_entry, set_entry}
+use Rattle.run_laws.proofs.Instances.{held_by_since, told_since}
 use Rattle.spec_dead.specs.Dead.{outlook}
 use Rattle.tree_dead.specs.Runs.{states_from}
 use Rattle.tree_dead.proofs.Fits.{Stands}
@@ -37,10 +39,10 @@ use Rattle.tree_dead.proofs.Visits.{change_live}
 abbrev held_in : List Instance → ℕ → Option Bool
 held_in instances p = option_map (λ (i : Instance). is_some i.since) (slice_get instances p)
 
-released_free : (instances : List Instance) (p : ℕ) → held_in (map released instances) p ≡ Some true → ⊥
-released_free [] p e = cc
-released_free (i ∷ instances) zero e = cc
-released_free (i ∷ instances) (suc p) e = released_free instances p e
+gone_free : (instances : List Instance) (p : ℕ) → held_in (map let_go instances) p ≡ Some true → ⊥
+gone_free [] p e = cc
+gone_free (i ∷ instances) zero e = cc
+gone_free (i ∷ instances) (suc p) e = gone_free instances p e
 
 fresh_free : (n p : ℕ) → held_in (replicate n fresh) p ≡ Some true → ⊥
 fresh_free zero p e = cc
@@ -93,7 +95,7 @@ module _ (is_dead : ℕ → Bool) where
 
     quenched_steady : (s : RunState) → AllSteady (quenched tree s)
     quenched_steady s k r is =
-        mapped_entry (λ (x : Runner). IsSteady x.memory x.instances) (quenched_runner tree) s.runners k r (λ x here. record { stands = opens; free = λ p dead held. released_free x.instances p held }) is
+        mapped_entry (λ (x : Runner). IsSteady x.memory x.instances) (quenched_runner tree) s.runners k r (λ x here. record { stands = opens; free = λ p dead held. gone_free x.instances p held }) is
 
     -- ---- One runner
 
@@ -155,10 +157,23 @@ module _ (is_dead : ℕ → Bool) where
           let d : Done (Unit {0}) Memory = root_reset tree view r.memory (state_of r run.facts at) in
           told_well h runner r is d d.answer ((term_keeps is_dead world.rows tree.term).reset view refl true 1 r.memory (state_of r run.facts at) (steady (runner - 1) r is).stands)
 
+      -- a leaf that is told something is held as it was
+      tell_well : (runner uid : ℕ) (telling : Telling) (o : Option Runner) → runner_at run runner ≡ o → GoesWell (tell_step o runner uid telling at run)
+      tell_well runner uid telling None is = record { live = tt; steady = same_runners run.facts }
+      tell_well runner uid telling (Some r) is =
+          let c : Call = tell_call uid telling (slice_index_or r.instances uid fresh) in
+          let before : IsSteady r.memory r.instances = steady (runner - 1) r is in
+          let now : IsSteady r.memory (called r c).instances = record {
+            stands = before.stands;
+            free = λ p dead held. before.free p dead (held_by_since r.instances (called r c).instances p (sym (told_since r.instances uid p telling)) ∙ held);
+          } in
+          record { live = tt; steady = λ k x found. set_entry (λ (y : Runner). IsSteady y.memory y.instances) run.runners (runner - 1) k (called r c) x now (λ y old. steady k y old) found }
+
       step_well : (what : What) → GoesWell (step_by what tree world at run)
       step_well (Tick runner) = tick_well runner (runner_at run runner) refl
       step_well (Halt runner) = reset_well (header.Halt runner at) runner (runner_at run runner) refl
       step_well (Change fact value) = record { live = tt; steady = same_runners (slice_set run.facts fact value) }
+      step_well (Tell runner uid telling) = tell_well runner uid telling (runner_at run runner) refl
 
     finish_well : (runner : ℕ) (run : RunState) → AllSteady run → GoesWell (finish tree world runner run)
     finish_well runner run steady = reset_well run steady run.last (header.Finish runner run.last) runner (runner_at run runner) refl

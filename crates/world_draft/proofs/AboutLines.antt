@@ -1,2 +1,4 @@
 pub mod Ascii
+pub mod Quoting
 pub mod Rests
+pub mod Telling

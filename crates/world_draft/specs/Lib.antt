@@ -3,3 +3,4 @@ pub mod Lines
 pub mod Readings
 pub mod Rows
 pub mod Tables
+pub mod Tellings

@@ -1,2 +1,4 @@
 pub mod Heads
+pub mod Quotes
 pub mod Ranges
+pub mod Written

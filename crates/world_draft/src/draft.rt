@@ -1,6 +1,7 @@
-ghost use Rattle.std.specs.Prelude.{◌≡◌, ◌==◌, Some, nat_eq, bytes_eq};
+ghost use Rattle.std.specs.Prelude.{◌≡◌, ◌==◌, ◌++◌, ◌∷◌, [], OnOk, Some, nat_eq, bytes_eq};
 ghost use Rattle.std.specs.List.{list_any};
-ghost use Rattle.spec_world_file.specs.WorldFile.{plain_row, row_with_effect, row_with_fails, row_with_need, row_with_out};
+ghost use Rattle.spec_world.specs.Worlds as worlds;
+ghost use Rattle.spec_world_file.specs.WorldFile.{plain_row, row_with_effect, row_with_fails, row_with_name, row_with_need, row_with_out};
 ghost use Rattle.world_draft.specs.Readings.{Leaves};
 ghost use Rattle.world_draft.specs.Drafts.{row_of};
 
@@ -8,7 +9,7 @@ use crate::facts::Facts;
 use crate::knowing::knows_all;
 use crate::ports::Ports;
 use base_tables::{MOST_EFFECTS, MOST_NEEDS, MOST_OUTPUTS};
-use base_texts::{Items, Name, Stop};
+use base_texts::{Items, Name, NoMemory, Stop};
 use spec_script::Expr;
 use spec_world::{Out, Row, RowSort, Set};
 use spec_world_file::WorldKind;
@@ -63,6 +64,18 @@ impl Draft {
         }
     }
 
+    /// Whether the row is an action that is modelled.
+    pub fn is_modelled(&self) -> bool
+        ensures { result ≡ worlds.is_modelled (row_of self.now).sort }
+    {
+        match &self.sort {
+            RowSort::Timed { .. } => true,
+            RowSort::Replay { .. } => true,
+            RowSort::Gate(_) => true,
+            _ => false,
+        }
+    }
+
     /// Adds when the action fails. The fault `BadLine` where it is not timed, `DoubleName` where it has such a line,
     /// `NoName` where a name is neither a port nor a fact.
     pub fn add_fails(&mut self, facts: &Facts, expr: Expr) -> Result<(), Stop<WorldKind>>
@@ -92,6 +105,32 @@ impl Draft {
             }
             _ => {
                 drop(expr);
+                Err(Stop::Fault(WorldKind::BadLine))
+            }
+        }
+    }
+
+    /// Adds an output for which a value may be told. The fault `BadLine` where the row is not told, `DoubleName` where it
+    /// has the output, `TooMany` above 8.
+    pub fn add_name(&mut self, alloc: Global, port: Name) -> Result<(), Stop<WorldKind>>
+        ensures added { Leaves result (row_of self.new) (λ said. said ≡ row_with_name port (row_of self.old)) }
+        ensures id { self.new.id ≡ self.old.id }
+    {
+        match &mut self.sort {
+            RowSort::Told { outs } => {
+                if has_name(outs.list(), port.list()) {
+                    drop(port);
+                    return Err(Stop::Fault(WorldKind::DoubleName));
+                }
+                if outs.list().len() >= MOST_OUTPUTS {
+                    drop(port);
+                    return Err(Stop::Fault(WorldKind::TooMany));
+                }
+                push_name(alloc, outs, port)?;
+                Ok(())
+            }
+            _ => {
+                drop(port);
                 Err(Stop::Fault(WorldKind::BadLine))
             }
         }
@@ -169,4 +208,21 @@ impl Draft {
         self.outs.push(out)?;
         Ok(())
     }
+}
+
+/// Whether one of the names is this.
+fn has_name(names: &[Name], name: &[u8]) -> bool
+    ensures { result ≡ list_any (bytes_eq name.now) names.now }
+{
+    names.iter().any(|other| name == other.list())
+}
+
+/// Adds a name after the others.
+fn push_name(alloc: Global, names: &mut Items<Name>, name: Name) -> Result<(), NoMemory>
+    ensures { OnOk result (names.new ≡ names.old ++ name ∷ []) }
+{
+    let mut list = replace(names, Items::of(Vec::new(alloc))).into_vec();
+    list.push(name)?;
+    drop(replace(names, Items::of(list)));
+    Ok(())
 }

@@ -10,10 +10,12 @@ mod ports;
 mod reading;
 mod rows;
 mod tables;
+mod telling;
 
 pub use draft::Draft;
 pub use lines::{
-    Head, content, cut, head_in, int, is, is_ignored, is_line, is_name, ms, name_of, names_of,
-    numeric, one_of, parts, trimmed, without_rest,
+    Head, WrittenOut, content, cut, head_in, int, is, is_ignored, is_line, is_name, ms, name_of,
+    names_of, numeric, one_of, outs_in, parts, trimmed, uid, without_rest,
 };
 pub use reading::Reading;
+pub use telling::told_outs;

@@ -2,7 +2,7 @@ ghost use Rattle.std.specs.Prelude.{◌≡◌, ◌<◌, ◌≤◌, ◌==◌, ◌
 ghost use Rattle.std.specs.List.{list_any};
 ghost use Rattle.spec_world.specs.Worlds.{ids_of_rows};
 ghost use Rattle.spec_world_file.specs.WorldFile as file;
-ghost use Rattle.spec_world_file.specs.WorldFile.{closed, is_taken, knows_all, nothing_read, plain_row, repeats, row_with_fails, row_with_need, row_with_effect, row_with_out, runners_of, with_action, with_event, with_fact, with_goal, with_moment, with_open, with_row, with_runners, world_of};
+ghost use Rattle.spec_world_file.specs.WorldFile.{closed, is_taken, knows_all, nothing_read, plain_row, repeats, row_with_fails, row_with_name, row_with_need, row_with_effect, row_with_out, runners_of, with_action, with_event, with_fact, with_goal, with_moment, with_open, with_row, with_runners, where_modelled, world_of};
 ghost use Rattle.world_draft.specs.Readings.{Leaves};
 ghost use Rattle.world_draft.specs.Drafts.{row_of, Allowed, DraftSays, HeadChecked};
 
@@ -273,6 +273,16 @@ impl Reading {
         self.draft.is_some()
     }
 
+    /// Whether an action is open that is modelled, to which lines may add needs, effects and outputs by expressions.
+    pub fn is_modelled(&self) -> bool
+        ensures { result ≡ is_some (where_modelled self.now.open_row) }
+    {
+        match &self.draft {
+            Some(draft) => draft.is_modelled(),
+            None => false,
+        }
+    }
+
     /// Adds to the open action when it fails. The fault `BadLine` where none is open, and as for `Draft::add_fails`.
     pub fn add_fails(&mut self, expr: Expr) -> Result<(), Stop<WorldKind>>
         ensures { Leaves result self.new (λ said. said ≡ with_open self.old.open_row self.old (row_with_fails self.old.facts expr)) }
@@ -307,11 +317,30 @@ impl Reading {
         }
     }
 
-    /// Adds an output to the open action. The fault `BadLine` where none is open, and as for `Draft::add_out`.
+    /// Adds to the open action an output for which a value may be told. The fault `BadLine` where none is open, and as for
+    /// `Draft::add_name`.
+    pub fn add_name(&mut self, alloc: Global, port: Name) -> Result<(), Stop<WorldKind>>
+        ensures { Leaves result self.new (λ said. said ≡ with_open self.old.open_row self.old (row_with_name port)) }
+    {
+        match &mut self.draft {
+            Some(draft) => draft.add_name(alloc, port),
+            None => {
+                drop(port);
+                Err(Stop::Fault(WorldKind::BadLine))
+            }
+        }
+    }
+
+    /// Adds an output to the open action. The fault `BadLine` where none is open that is modelled, and as for
+    /// `Draft::add_out`.
     pub fn add_out(&mut self, out: Out) -> Result<(), Stop<WorldKind>>
         ensures { Leaves result self.new (λ said.
-            said ≡ with_open self.old.open_row self.old (row_with_out self.old.facts out.port out.expr)) }
+            said ≡ with_open (where_modelled self.old.open_row) self.old (row_with_out self.old.facts out.port out.expr)) }
     {
+        if !self.is_modelled() {
+            drop(out);
+            return Err(Stop::Fault(WorldKind::BadLine));
+        }
         match &mut self.draft {
             Some(draft) => draft.add_out(&self.facts, out),
             None => {
@@ -369,6 +398,7 @@ impl Reading {
         ensures { Leaves result self.new (λ said. said ≡ with_event what self.old) }
     {
         if self.events.len() >= MOST_EVENTS {
+            drop(what);
             return Err(Stop::Fault(WorldKind::TooMany));
         }
         self.events.push(Event {

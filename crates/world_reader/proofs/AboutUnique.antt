@@ -2,5 +2,6 @@ pub mod Alone
 pub mod Grown
 pub mod Sound
 pub mod SoundRows
+pub mod SoundTellings
 pub mod Validity
 pub mod WellFormed

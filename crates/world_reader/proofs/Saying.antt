@@ -9,7 +9,7 @@ use Rattle.spec_script.specs.declared.syntax.Expr.{Expr}
 use Rattle.spec_world.specs.declared.world.Row.{Row}
 use Rattle.spec_world.specs.declared.world.RowSort.{RowSort}
 use Rattle.spec_world_file.specs.declared.world_fault.WorldKind.{WorldKind}
-use Rattle.spec_world_file.specs.WorldFile.{Line, TimedLine, ReplayLine, AfterForm, AfterLine, Reading, following, ends_after, is_ms, outcomes_in, replay_line, timed_line, with_action, word, ReadsNumeric, SaysOf, closed, ranged, with_head}
+use Rattle.spec_world_file.specs.WorldFile.{Line, TimedLine, ReplayLine, AfterForm, AfterLine, Reading, following, ends_after, is_ms, outcomes_in, replay_line, timed_line, told_line, with_action, word, ReadsNumeric, SaysOf, closed, ranged, with_head}
 use Rattle.spec_tree.specs.Numbers.{is_canonical, number_in}
 use Rattle.spec_world_file.specs.WorldFile as file
 use Rattle.world_draft.specs.Lines.Ranges.{Passes}
@@ -84,3 +84,14 @@ replay_is text w letters rest head is is_letters is_rest none canonical all =
     ap (λ (t : Bool). if t then option_and_then (λ ms. option_map (ReplayLine head ms) (outcomes_in (word 1 text))) (number_in (word 0 text)) else None) (ends_is text rest 2 is_rest none)
     ∙ ap (option_and_then (λ ms. option_map (ReplayLine head ms) (outcomes_in (word 1 text)))) (number_is w text is canonical)
     ∙ ap (option_map (ReplayLine head (signed_digits_value 10 w))) (ap outcomes_in (sym is_letters) ∙ ap (λ (t : Bool). if t then Some (map (λ b. b == 83) letters) else None) all)
+
+-- a row of which a line says nothing more
+pub nothing_more :
+    {A : Type 0} (result : Result A (Stop WorldKind)) (left r now : Reading) (line : file.Head → Line) (head : file.Head) (row text : List ℕ) (add : Row → Reading → Result Reading WorldKind) (sort : RowSort) →
+    ((said : Result Reading WorldKind) → said ≡ with_head head add sort (closed r) → AfterLine r (line head) said) →
+    now ≡ closed r → Some head ≡ file.head_in row → (length text == 0) ≡ true → Leaves result left (λ said. said ≡ with_head head add sort now) → Leaves result left (AfterForm r (told_line line row text))
+nothing_more result left r now line head row text add sort after is is_head none =
+    let said_line : told_line line row text ≡ Some (line head) =
+    ap (λ (t : Bool). if t then option_map line (file.head_in row) else None) none ∙ ap (option_map line) (sym is_head) in
+    leaves_map result left (λ said. said ≡ with_head head add sort now) (AfterForm r (told_line line row text))
+    (λ said k. subst (λ (o : Option Line). AfterForm r o said) (sym said_line) (after said (k ∙ ap (λ (q : Reading). with_head head add sort q) is)))

@@ -5,7 +5,7 @@ ghost use Rattle.spec_world.specs.Worlds as worlds;
 ghost use Rattle.spec_tree.specs.Numbers.{is_int};
 ghost use Rattle.spec_tree.specs.Numbers as numbers;
 ghost use Rattle.spec_world_file.specs.WorldFile as file;
-ghost use Rattle.spec_world_file.specs.WorldFile.{AfterForm, GateLine, WhenLine, action_line, ranged, with_comparison, comparison_in, condition_line, is_line, is_line_byte, outcomes_in, replay_line, timed_line};
+ghost use Rattle.spec_world_file.specs.WorldFile.{AfterForm, GateLine, SensedLine, ToldLine, WhenLine, action_line, ranged, with_comparison, comparison_in, condition_line, is_line, is_line_byte, outcomes_in, replay_line, timed_line, told_line};
 ghost use Rattle.world_draft.specs.Readings.{Leaves};
 
 use base_tables::{MOST_OUTCOMES, is_canonical};
@@ -72,7 +72,7 @@ fn outcomes(alloc: Global, word: &[u8]) -> Result<Vec<bool>, AllocError>
     word.iter().map(|letter| is_success(*letter)).collect(alloc)
 }
 
-/// Reads `condition ROW is NAME OP INT` or `condition ROW when EXPR`, from after `condition`.
+/// Reads `condition ROW is NAME OP INT`, `condition ROW when EXPR` or `condition ROW told`, from after `condition`.
 pub fn read_condition(
     alloc: Global,
     reading: &mut Reading,
@@ -87,12 +87,15 @@ pub fn read_condition(
         read_comparison(alloc, reading, row, rest)
     } else if is(verb, "when") {
         read_when(alloc, reading, row, rest)
+    } else if is(verb, "told") {
+        read_sensed(alloc, reading, row, rest)
     } else {
         Err(Stop::Fault(WorldKind::BadLine))
     }
 }
 
-/// Reads `action ROW timed MS`, `action ROW replay MS OUTCOMES` or `action ROW gate EXPR`, from after `action`.
+/// Reads `action ROW timed MS`, `action ROW replay MS OUTCOMES`, `action ROW gate EXPR` or `action ROW told`, from after
+/// `action`.
 pub fn read_action(alloc: Global, reading: &mut Reading, text: &[u8]) -> Result<(), Stop<WorldKind>>
     requires { list_all is_line_byte text.now ≡ true }
     ensures { Leaves result reading.new (AfterForm reading.old (action_line text.now)) }
@@ -105,6 +108,8 @@ pub fn read_action(alloc: Global, reading: &mut Reading, text: &[u8]) -> Result<
         read_replay(alloc, reading, row, rest)
     } else if is(verb, "gate") {
         read_gate(alloc, reading, row, rest)
+    } else if is(verb, "told") {
+        read_told(alloc, reading, row, rest)
     } else {
         Err(Stop::Fault(WorldKind::BadLine))
     }
@@ -272,6 +277,51 @@ fn read_replay(
     };
     let outcomes = Items::of(outcomes(alloc, letters)?);
     match reading.draft_of(alloc, head.id, head.ports, RowSort::Replay { ms, outcomes }) {
+        Ok(draft) => reading.open_action(draft),
+        Err(stop) => Err(stop),
+    }
+}
+
+/// Reads what is left after `told`, which is nothing, of the condition with this head.
+fn read_sensed(
+    alloc: Global,
+    reading: &mut Reading,
+    row: &[u8],
+    text: &[u8],
+) -> Result<(), Stop<WorldKind>>
+    ensures { Leaves result reading.new (AfterForm reading.old (told_line SensedLine row.now text.now)) }
+{
+    let Some(head) = head_in(alloc, row)? else {
+        return Err(Stop::Fault(WorldKind::BadLine));
+    };
+    if !text.is_empty() {
+        return Err(Stop::Fault(WorldKind::BadLine));
+    }
+    reading.close(alloc)?;
+    match reading.draft_of(alloc, head.id, head.ports, RowSort::Sensed) {
+        Ok(draft) => reading.add_condition(alloc, draft.into_row()),
+        Err(stop) => Err(stop),
+    }
+}
+
+/// Reads what is left after `told`, which is nothing, of the action with this head.
+fn read_told(
+    alloc: Global,
+    reading: &mut Reading,
+    row: &[u8],
+    text: &[u8],
+) -> Result<(), Stop<WorldKind>>
+    ensures { Leaves result reading.new (AfterForm reading.old (told_line ToldLine row.now text.now)) }
+{
+    let Some(head) = head_in(alloc, row)? else {
+        return Err(Stop::Fault(WorldKind::BadLine));
+    };
+    if !text.is_empty() {
+        return Err(Stop::Fault(WorldKind::BadLine));
+    }
+    reading.close(alloc)?;
+    let outs = Items::of(Vec::new(alloc));
+    match reading.draft_of(alloc, head.id, head.ports, RowSort::Told { outs }) {
         Ok(draft) => reading.open_action(draft),
         Err(stop) => Err(stop),
     }

@@ -1,6 +1,6 @@
 ghost use Rattle.std.specs.Prelude.{◌≡◌, Some, true};
 ghost use Rattle.std.specs.List.{list_all};
-ghost use Rattle.spec_world_file.specs.WorldFile.{AfterForm, FailsLine, NeedsLine, how_in, is_line_byte, name_line, out_line, sets_line};
+ghost use Rattle.spec_world_file.specs.WorldFile.{AfterForm, FailsLine, NameLine, NeedsLine, how_in, is_line_byte, name_line, out_line, sets_line};
 ghost use Rattle.world_draft.specs.Readings.{Leaves};
 
 use base_tables::is_canonical;
@@ -26,7 +26,7 @@ pub fn read_need(reading: &mut Reading, text: &[u8]) -> Result<(), Stop<WorldKin
     ensures { Leaves result reading.new (AfterForm reading.old (name_line NeedsLine text.now)) }
 {
     let (id, rest) = cut(text);
-    if !is_name(id) || !rest.is_empty() || !reading.is_open() {
+    if !is_name(id) || !rest.is_empty() || !reading.is_modelled() {
         return Err(Stop::Fault(WorldKind::BadLine));
     }
     match reading.comparison_number(id) {
@@ -61,7 +61,7 @@ pub fn read_effect(reading: &mut Reading, text: &[u8]) -> Result<(), Stop<WorldK
     let Some(how) = how_of(sign) else {
         return Err(Stop::Fault(WorldKind::BadLine));
     };
-    if !is_canonical(number) || !reading.is_open() {
+    if !is_canonical(number) || !reading.is_modelled() {
         return Err(Stop::Fault(WorldKind::BadLine));
     }
     let Some(value) = int(number) else {
@@ -73,7 +73,7 @@ pub fn read_effect(reading: &mut Reading, text: &[u8]) -> Result<(), Stop<WorldK
     }
 }
 
-/// Reads `out PORT = EXPR`.
+/// Reads `out PORT = EXPR` or `out PORT`.
 pub fn read_out(alloc: Global, reading: &mut Reading, text: &[u8]) -> Result<(), Stop<WorldKind>>
     requires { list_all is_line_byte text.now ≡ true }
     ensures { Leaves result reading.new (AfterForm reading.old (out_line text.now)) }
@@ -81,7 +81,7 @@ pub fn read_out(alloc: Global, reading: &mut Reading, text: &[u8]) -> Result<(),
     let (port, rest) = cut(text);
     let (sign, rest) = cut(rest);
     if !is_name(port) || !is(sign, "=") {
-        return Err(Stop::Fault(WorldKind::BadLine));
+        return read_name(alloc, reading, text);
     }
     match numeric(alloc, rest)? {
         Some(expr) => {
@@ -90,4 +90,16 @@ pub fn read_out(alloc: Global, reading: &mut Reading, text: &[u8]) -> Result<(),
         }
         None => Err(Stop::Fault(WorldKind::BadLine)),
     }
+}
+
+/// Reads `out PORT`, of an output for which a value may be told.
+fn read_name(alloc: Global, reading: &mut Reading, text: &[u8]) -> Result<(), Stop<WorldKind>>
+    ensures { Leaves result reading.new (AfterForm reading.old (name_line NameLine text.now)) }
+{
+    let (port, rest) = cut(text);
+    if !is_name(port) || !rest.is_empty() {
+        return Err(Stop::Fault(WorldKind::BadLine));
+    }
+    let port = name_of(alloc, port)?;
+    reading.add_name(alloc, port)
 }

@@ -8,6 +8,7 @@ mod events;
 mod forms;
 pub mod laws;
 mod read;
+mod tellings;
 mod unique;
 
 pub use read::read_world;

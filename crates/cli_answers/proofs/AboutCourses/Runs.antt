@@ -2,6 +2,7 @@
 use Rattle.std.proofs.Common.{◌≡◌, ◌≤◌, ℕ, List, [], ◌∷◌, inl, Option, Some, None, refl, sym, ap, subst, ◌∙◌, Result, Ok, Err}
 use Rattle.std.specs.Prelude.{IfOk, IfSome, IsErrOf, OnErr, OnOk, length, option_map}
 use Rattle.std.specs.List.{flat_map}
+use Rattle.std.specs.Option.{option_or}
 use Rattle.spec_run.specs.declared.join_fault.JoinFault.{JoinFault}
 use Rattle.run_arena.specs.declared.nodes.Node.{Node}
 use Rattle.run_arena.specs.Joining.{Joins}
@@ -34,7 +35,10 @@ use Rattle.spec_program.specs.Answers.{AtMoments, ClockLeft, ClockWithin, Gave, 
 use Rattle.cli_answers.specs.Courses.Courses.{exit_of, course_output, trace_output}
 use Rattle.cli_refusals.specs.Ends.{Ends, EndsAt, IsUntouched}
 use Rattle.spec_program.specs.Output.{AreUncalled, Asked, Output, UpToFault}
-use Rattle.spec_program.specs.Courses.{Given, asked_by, given, joined_output, lack_of, run_exit}
+use Rattle.spec_program.specs.Courses.{Given, asked_by, given, joined_output, run_exit}
+use Rattle.spec_run.specs.Joins.{first_missing, first_untold, lack_of}
+use Rattle.spec_tree.specs.Terms.{leaf_ids}
+use Rattle.spec_tree.specs.Trees.{nodes_of}
 use Rattle.cli_answers.specs.Courses.Joined.{JoinGives}
 use Rattle.cli_refusals.specs.Refusing.{stopped_as}
 use Rattle.cli_refusals.proofs.AboutLent.Moments.{at_any}
@@ -53,7 +57,7 @@ use Rattle.spec_output.specs.Texts.{block_text, text_of}
 use Rattle.text_trace.specs.Traces.{AreKept, CanAllCome, CanRun, Leaves, ended, side as stage, state_in, trace_of}
 use Rattle.text_trace.specs.Watches.{Watched}
 use Rattle.text_trace.proofs.Cuts.{cut_has_begun_within}
-use Rattle.text_trace.proofs.Worlds.{events_of_world}
+use Rattle.text_trace.proofs.Worlds.{events_of_world, neither}
 
 -- ---- Drivers
 
@@ -67,10 +71,25 @@ kept_both a b c ab bc = record { same = roster_both a b c ab bc.same; none = bc.
 -- ---- Events
 
 -- before its first event the events of a world can come in order
-pub all_come : (of : Setup) (drivers : List DriverState) (runs : Runs) (events : List Event) → CanRun of drivers runs → state_in of drivers runs ≡ opening of.tree of.world → events ≡ of.world.events → CanAllCome of.world runs.last events
-all_come of drivers runs events can opened listed =
-    subst (λ (es : List Event). CanAllCome of.world runs.last es) (sym listed)
-    (subst (λ (n : ℕ). CanAllCome of.world n of.world.events) (sym (ap (λ (s : RunState). s.last) opened)) (events_of_world of.world can.is_valid_world))
+pub all_come : (of : Setup) (drivers : List DriverState) (runs : Runs) (events : List Event) → CanRun of drivers runs → state_in of drivers runs ≡ opening of.tree of.world → events ≡ of.world.events
+    → first_untold of.world.rows (nodes_of of.tree.term) of.world.events ≡ None → CanAllCome of runs.last events
+all_come of drivers runs events can opened listed told =
+    subst (λ (es : List Event). CanAllCome of runs.last es) (sym listed)
+    (subst (λ (n : ℕ). CanAllCome of n of.world.events) (sym (ap (λ (s : RunState). s.last) opened)) (events_of_world of can.is_valid_world told))
+
+-- where a run lacks nothing, no event of the script does
+pub all_told : (of : Setup) (drivers : List DriverState) → lack_of of.tree of.world drivers ≡ None → first_untold of.world.rows (nodes_of of.tree.term) of.world.events ≡ None
+all_told of drivers none = (neither (first_missing of.world.rows drivers (leaf_ids of.tree.term)) (first_untold of.world.rows (nodes_of of.tree.term) of.world.events) none).1
+
+-- what is missing for the events, where nothing is for the leaves
+pub untold_lacks : (of : Setup) (drivers : List DriverState) (untold : Option JoinFault) → first_missing of.world.rows drivers (leaf_ids of.tree.term) ≡ None
+    → untold ≡ first_untold of.world.rows (nodes_of of.tree.term) of.world.events → lack_of of.tree of.world drivers ≡ untold
+untold_lacks of drivers untold none is = ap (λ (o : Option JoinFault). option_or o (first_untold of.world.rows (nodes_of of.tree.term) of.world.events)) none ∙ sym is
+
+-- what is missing for the leaves is missing for the run
+pub leaves_lack : (of : Setup) (drivers : List DriverState) (stopped : Stop JoinFault) → Joins {A = Runs} (Err stopped) (first_missing of.world.rows drivers (leaf_ids of.tree.term)) → Joins {A = Runs} (Err stopped) (lack_of of.tree of.world drivers)
+leaves_lack of drivers stop.NoMemory lacks = tt
+leaves_lack of drivers (stop.Fault fault) lacks = ap (λ (o : Option JoinFault). option_or o (first_untold of.world.rows (nodes_of of.tree.term) of.world.events)) lacks
 
 -- ---- Ends
 

@@ -8,7 +8,8 @@ use Rattle.spec_output.specs.Lines.{LineNames, line_names}
 use Rattle.spec_outside.specs.Moments.{Moments}
 use Rattle.spec_output.specs.NoNames.{no_names}
 use Rattle.spec_program.specs.Output.{Output}
-use Rattle.spec_program.specs.Courses.{given, joined_output, lack_of}
+use Rattle.spec_program.specs.Courses.{given, joined_output}
+use Rattle.spec_run.specs.Joins.{lack_of}
 use Rattle.spec_program.specs.declared.course.Course.TheVariants as course
 
 -- the names that the lines of a run need on this course: of a load none is written

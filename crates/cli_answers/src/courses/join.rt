@@ -1,9 +1,14 @@
-ghost use Rattle.std.specs.Prelude.{◌≡◌, IfOk};
+ghost use Rattle.std.specs.Prelude.{◌≡◌, IfOk, None};
 ghost use Rattle.spec_run.specs.Served.{Setup};
+ghost use Rattle.run_loop.specs.Begun.{AreBegun, HaveSameTotals};
 ghost use Rattle.run_loop.specs.Runs.{arenas_of};
 ghost use Rattle.spec_run.specs.Drivers.{NothingHeld};
 ghost use Rattle.base_tables.specs.SlotTables.{slot_table};
+ghost use Rattle.spec_run.specs.Joins.{first_untold, lack_of};
+ghost use Rattle.spec_run.specs.Rosters.{IsSameRoster};
 ghost use Rattle.spec_run.specs.Run.{opening};
+ghost use Rattle.spec_tree.specs.Trees.{nodes_of};
+ghost use Rattle.run_arena.specs.Joining.{Joins};
 ghost use Rattle.base_tables.specs.Runnable.{IsRunnable};
 ghost use Rattle.spec_world.specs.Worlds.{IsValidWorld};
 ghost use Rattle.spec_program.specs.Answers.{AtMoments, Gave};
@@ -16,11 +21,12 @@ ghost use Rattle.cli_answers.specs.Courses.Joined.{JoinGives, names_on};
 ghost use Rattle.text_trace.specs.Traces.{CanRun, state_in};
 
 use base_outside::{Clock, Shelf, Sink};
-use base_texts::NoMemory;
+use base_texts::{NoMemory, Stop};
 use cli_refusals::{Outside, Refusal};
 use run_driver::Drivers;
-use run_loop::{Runs, make_runs};
+use run_loop::{Runs, make_runs, tellings_fit};
 use spec_program::{Course, Exit};
+use spec_run::JoinFault;
 use spec_tree::Tree;
 use spec_world::{Event, World};
 use std::alloc::Global;
@@ -53,6 +59,7 @@ fn run_summed<S: Shelf, K: Sink, C: Clock, D: Drivers>(
     requires runs { CanRun of (D.states outside.old.drivers.now) runs }
     requires opening { state_in of (D.states outside.old.drivers.now) runs ≡ opening of.tree of.world }
     requires events { events.now ≡ of.world.events }
+    requires told { first_untold of.world.rows (nodes_of of.tree.term) of.world.events ≡ None }
     ensures gave { AtMoments (C.moments outside.old.clock.now) (λ moments.
         Gave (course_output of (arenas_of runs) (course.Load leaves) moments (D.states outside.old.drivers.now)) (exit_of result)
         (seen K.written K.faults C.moments D.states outside.old)
@@ -79,6 +86,7 @@ fn run<S: Shelf, K: Sink, C: Clock, D: Drivers>(
     requires runs { CanRun of (D.states outside.old.drivers.now) runs }
     requires opening { state_in of (D.states outside.old.drivers.now) runs ≡ opening of.tree of.world }
     requires events { events.now ≡ of.world.events }
+    requires told { first_untold of.world.rows (nodes_of of.tree.term) of.world.events ≡ None }
     requires names { names.now ≡ names_on course of.tree of.world }
     ensures gave { AtMoments (C.moments outside.old.clock.now) (λ moments.
         Gave (course_output of (arenas_of runs) course moments (D.states outside.old.drivers.now)) result
@@ -131,8 +139,38 @@ fn names_on(
     }
 }
 
+/// The runs of a tree in a world over these drivers, where every leaf has a row and its row a driver, and every event of
+/// the script that tells a leaf something finds one that can be told it. The fault is what is missing first.
+fn joined_runs<D: Drivers>(
+    alloc: Global,
+    tree: &Tree,
+    slots: &Slots,
+    world: &World,
+    drivers: &mut D,
+) -> Result<Runs, Stop<JoinFault>>
+    ghost of: { Setup }
+    requires tree { tree.now ≡ of.tree }
+    requires world { world.now ≡ of.world }
+    requires runnable { IsRunnable tree.now }
+    requires slots { slots.now ≡ slot_table tree.now }
+    requires valid_world { IsValidWorld world.now }
+    requires quiet { NothingHeld (D.states drivers.old) }
+    ensures fault { Joins result (lack_of of.tree of.world (D.states drivers.old)) }
+    ensures begun { IfOk result (AreBegun of.tree of.world (D.states drivers.old) (D.states drivers.new)) }
+    ensures none { NothingHeld (D.states drivers.new) }
+    ensures roster { IsSameRoster (D.states drivers.old) (D.states drivers.new) }
+    ensures totals { HaveSameTotals (D.states drivers.old) (D.states drivers.new) }
+{
+    let runs = make_runs(alloc, tree, slots, world, drivers)?;
+    match tellings_fit(&runs, world.events.list()) {
+        Ok(()) => Ok(runs),
+        Err(fault) => Err(Stop::Fault(fault)),
+    }
+}
+
 /// Joins a tree with a world and the drivers and runs it, where every leaf has a row and its row a
-/// driver; else it is refused for the first leaf that lacks one.
+/// driver; else it is refused for the first leaf that lacks one, or else for the first event that tells a leaf or an
+/// output that is not there.
 pub fn join_and_run<S: Shelf, K: Sink, C: Clock, D: Drivers>(
     alloc: Global,
     tree: &Tree,
@@ -154,6 +192,6 @@ pub fn join_and_run<S: Shelf, K: Sink, C: Clock, D: Drivers>(
 {
     let slots = slots_of(alloc, tree)?;
     let names = names_on(alloc, course, tree, world, &slots)?;
-    let runs = make_runs(alloc, tree, &slots, world, outside.drivers)?;
+    let runs = joined_runs(alloc, tree, &slots, world, outside.drivers)?;
     Ok(run(alloc, runs, world.events.list(), &names, course, outside))
 }

@@ -24,7 +24,10 @@ pub fn test_of(sort: &RowSort) -> Option<Test>
 fn is_condition(sort: &RowSort) -> bool
     ensures { result ≡ is_condition sort.now }
 {
-    matches!(sort, RowSort::Is { .. } | RowSort::When(_))
+    matches!(
+        sort,
+        RowSort::Is { .. } | RowSort::When(_) | RowSort::Sensed
+    )
 }
 
 fn is_template(row: &Row) -> bool

@@ -11,7 +11,7 @@ use Rattle.spec_run.specs.declared.note.Note.TheVariants.{Quenched}
 use Rattle.spec_run.specs.Done.{Call}
 use Rattle.spec_run.specs.Drivers.{DriverState, is_held}
 use Rattle.base_tables.specs.DriverCalls.{instance_at, roster_halted}
-use Rattle.spec_run.specs.Leaf.{fresh, released}
+use Rattle.spec_run.specs.Leaf.{fresh, let_go, released}
 use Rattle.spec_run.specs.Run.{releases, quenched_notes}
 use Rattle.run_arena.specs.declared.nodes.Kept.{Kept}
 use Rattle.run_arena.specs.declared.nodes.Node.{Node}
@@ -44,8 +44,12 @@ since_free None free = refl
 since_free (Some n) free = cc
 
 -- an instance that is not held stays as it is
-pub released_free : (i : Instance) → is_held i ≡ false → released i ≡ i
-released_free i free = ap (λ (since : Option ℕ). let x : Instance = record { since = since; completions = i.completions } in x) (since_free i.since free)
+pub free_stays : (i : Instance) → is_held i ≡ false → let_go i ≡ i
+free_stays i free = λ k. record { since = since_free i.since free k; completions = i.completions; told = (if free k then None else i.told) }
+
+-- one that is held is released
+held_goes : (i : Instance) → is_held i ≡ true → let_go i ≡ released i
+held_goes i held = λ k. record { since = None; completions = i.completions; told = (if held k then None else i.told) }
 
 -- the calls for some instances are that for the first, and those for the others
 releases_by : (uid : ℕ) (i : Instance) (is : List Instance) (b : Bool) → (if b then call_of uid i ∷ releases (uid + 1) is else releases (uid + 1) is) ≡ (if b then call_of uid i ∷ [] else []) ++ releases (uid + 1) is
@@ -66,10 +70,10 @@ module _ (nodes : List Node) (drivers : List DriverState) (uid : ℕ) where
     pub free_drivers : drivers ≡ roster_after nodes (releases_one uid instance_here) drivers
     free_drivers = ap (λ (cs : List Call). roster_after nodes cs drivers) (sym (one_free uid instance_here free))
 
-    pub free_instances : instances_of nodes drivers ≡ slice_set (instances_of nodes drivers) uid (released instance_here)
+    pub free_instances : instances_of nodes drivers ≡ slice_set (instances_of nodes drivers) uid (let_go instance_here)
     free_instances =
         sym (set-get_or (instances_of nodes drivers) uid fresh)
-        ∙ ap (slice_set (instances_of nodes drivers) uid) (instance_at_uid nodes drivers uid ∙ sym (released_free instance_here free))
+        ∙ ap (slice_set (instances_of nodes drivers) uid) (instance_at_uid nodes drivers uid ∙ sym (free_stays instance_here free))
 
     pub free_notes : (runner : ℕ) (n : List Note) → n ≡ n ++ quenched_notes runner (releases_one uid instance_here)
     free_notes runner n = sym (append-nil n) ∙ ap (λ (cs : List Call). n ++ quenched_notes runner cs) (sym (one_free uid instance_here free))
@@ -88,11 +92,12 @@ module _ (nodes : List Node) (drivers : List DriverState) (uid : ℕ) where
         ∙ sym (roster_after_call nodes drivers uid leaf phase.Halted (released (instance_at drivers leaf.driver leaf.instance)) served is (call_of uid instance_here) [] refl refl (ap released same))
         ∙ ap (λ (cs : List Call). roster_after nodes cs drivers) (sym (one_held uid instance_here held))
 
-    pub held_instances : instances_of nodes drivers1 ≡ slice_set (instances_of nodes drivers) uid (released instance_here)
+    pub held_instances : instances_of nodes drivers1 ≡ slice_set (instances_of nodes drivers) uid (let_go instance_here)
     held_instances =
         ap (instances_of nodes) halted
         ∙ instances_called nodes drivers uid leaf phase.Halted (released (instance_at drivers leaf.driver leaf.instance)) served is
         ∙ ap (λ (i : Instance). slice_set (instances_of nodes drivers) uid (released i)) (sym same)
+        ∙ ap (slice_set (instances_of nodes drivers) uid) (sym (held_goes instance_here held))
 
     pub held_notes : (runner : ℕ) (n n1 : List Note) → n1 ≡ n ++ Quenched runner uid ∷ [] → n1 ≡ n ++ quenched_notes runner (releases_one uid instance_here)
     held_notes runner n n1 noted = noted ∙ ap (λ (cs : List Call). n ++ quenched_notes runner cs) (sym (one_held uid instance_here held))
@@ -114,7 +119,7 @@ has_leaf : (drivers : List DriverState) (o : Option ReadyLeaf) → is_held (leaf
 has_leaf drivers None held = cc
 has_leaf drivers (Some leaf) held = refl
 
-module _ (runner : ℕ) (nodes : List Node) (kept : List Kept) (drivers drivers1 : List DriverState) (uid : ℕ) (within : uid < length nodes) (marks : marks_of kept ≡ map is_held (instances_of nodes drivers)) (lets : instances_of nodes drivers1 ≡ slice_set (instances_of nodes drivers) uid (released (instance_here nodes drivers uid))) where
+module _ (runner : ℕ) (nodes : List Node) (kept : List Kept) (drivers drivers1 : List DriverState) (uid : ℕ) (within : uid < length nodes) (marks : marks_of kept ≡ map is_held (instances_of nodes drivers)) (lets : instances_of nodes drivers1 ≡ slice_set (instances_of nodes drivers) uid (let_go (instance_here nodes drivers uid))) where
   abbrev now : List Instance
   now = instances_of nodes drivers
 
@@ -128,7 +133,7 @@ module _ (runner : ℕ) (nodes : List Node) (kept : List Kept) (drivers drivers1
       ∙ letting_more uid (get_or now uid fresh) (drop (uid + 1) now)
       ∙ ap (λ (i : Instance). releases_one uid i ++ releases (uid + 1) (drop (uid + 1) now)) (instance_at_uid nodes drivers uid)
       ∙ ap (λ (l : List Instance). releases_one uid (instance_here nodes drivers uid) ++ releases (uid + 1) l)
-      (sym (drop-set-lt (uid + 1) now uid (released (instance_here nodes drivers uid)) (omega arith)) ∙ ap (drop (uid + 1)) (sym lets))
+      (sym (drop-set-lt (uid + 1) now uid (let_go (instance_here nodes drivers uid)) (omega arith)) ∙ ap (drop (uid + 1)) (sym lets))
 
   pub drivers_more : drivers1 ≡ roster_after nodes (releases_one uid (instance_here nodes drivers uid)) drivers → roster_after nodes (calls_left nodes (uid + 1) drivers1) drivers1 ≡ roster_after nodes (calls_left nodes uid drivers) drivers
   drivers_more called =
@@ -148,17 +153,18 @@ module _ (runner : ℕ) (nodes : List Node) (kept : List Kept) (drivers drivers1
   length_more = ap length left_more ∙ length-append (releases_one uid (instance_here nodes drivers uid)) (calls_left nodes (uid + 1) drivers1)
 
   -- each instance is halted once
-  pub lets_same : map released (instances_of nodes drivers1) ≡ map released now
+  pub lets_same : map let_go (instances_of nodes drivers1) ≡ map let_go now
   lets_same =
-      ap (map released) lets
-      ∙ map-set_same released now uid (released (instance_here nodes drivers uid)) fresh (ap released (sym (instance_at_uid nodes drivers uid)))
+      ap (map let_go) lets
+      ∙ map-set_same let_go now uid (let_go (instance_here nodes drivers uid)) fresh
+      (free_stays (let_go (instance_here nodes drivers uid)) refl ∙ ap let_go (sym (instance_at_uid nodes drivers uid)))
 
   -- and its mark is removed
   pub marks_more : marks_of (slice_set kept uid at_rest) ≡ map is_held (instances_of nodes drivers1)
   marks_more =
       map-set (λ (k : Kept). k.held) kept uid at_rest
       ∙ ap (λ (bs : List Bool). slice_set bs uid false) marks
-      ∙ sym (map-set is_held now uid (released (instance_here nodes drivers uid)))
+      ∙ sym (map-set is_held now uid (let_go (instance_here nodes drivers uid)))
       ∙ ap (map is_held) (sym lets)
 
   -- a call has its place in the reserve
@@ -180,9 +186,9 @@ room_here nodes kept drivers uid reserve within marks room held =
     omega (arith, room, sum_by-drop_more (λ (node : Node). cond (has_driver node.leaf) 1 0) nodes uid nobody within, ap one has)
 
 -- instances of which none is held stay as they are
-pub all_free : (is : List Instance) → ((p : ℕ) → is_held (get_or is p fresh) ≡ false) → map released is ≡ is
+pub all_free : (is : List Instance) → ((p : ℕ) → is_held (get_or is p fresh) ≡ false) → map let_go is ≡ is
 all_free [] free = refl
-all_free (i ∷ is) free = λ k. released_free i (free 0) k ∷ all_free is (λ p. free (suc p)) k
+all_free (i ∷ is) free = λ k. free_stays i (free 0) k ∷ all_free is (λ p. free (suc p)) k
 
 -- ---- Rest
 

@@ -1,6 +1,6 @@
 ghost use Rattle.std.specs.Prelude.{◌≡◌, ◌+◌, ◌<◌, ◌≤◌, ◌^◌, ◌++◌, ℕ, length, map, true, slice_set};
 ghost use Rattle.spec_run.specs.Drivers.{is_held};
-ghost use Rattle.spec_run.specs.Leaf.{released};
+ghost use Rattle.spec_run.specs.Leaf.{let_go};
 ghost use Rattle.spec_run.specs.Run.{quenched_notes};
 ghost use Rattle.run_arena.specs.Nodes.{at_rest, kept_at, leaf_at};
 ghost use Rattle.run_arena.specs.Rosters.{AreServed, instances_of, leaf_instance, leaves_in, roster_after};
@@ -26,7 +26,7 @@ fn quench_leaf<D: Drivers>(
     requires room { (kept_at kept.now uid).held ≡ true → 0 < notes.old.reserve }
     ensures drivers { let calls = releases_at nodes.now uid (D.states drivers.old) in
         D.states drivers.new ≡ roster_after nodes.now calls (D.states drivers.old) }
-    ensures instances { let left = released (leaf_instance (D.states drivers.old) (leaf_at nodes.now uid)) in
+    ensures instances { let left = let_go (leaf_instance (D.states drivers.old) (leaf_at nodes.now uid)) in
         instances_of nodes.now (D.states drivers.new) ≡ slice_set (instances_of nodes.now (D.states drivers.old)) uid left }
     ensures leaves { AreServed (D.states drivers.new) nodes.now }
     ensures notes { notes.new.list ≡ notes.old.list ++ quenched_notes runner (releases_at nodes.now uid (D.states drivers.old)) }
@@ -59,7 +59,7 @@ pub fn quench_nodes<D: Drivers>(
     requires room { leaves_in nodes.now ≤ notes.old.reserve }
     ensures drivers { let calls = releases_in nodes.now (D.states drivers.old) in
         D.states drivers.new ≡ roster_after nodes.now calls (D.states drivers.old) }
-    ensures instances { instances_of nodes.now (D.states drivers.new) ≡ map released (instances_of nodes.now (D.states drivers.old)) }
+    ensures instances { instances_of nodes.now (D.states drivers.new) ≡ map let_go (instances_of nodes.now (D.states drivers.old)) }
     ensures leaves { AreServed (D.states drivers.new) nodes.now }
     ensures rest { (uid : ℕ) → kept_at kept.new uid ≡ at_rest }
     ensures marks { marks_of kept.new ≡ map is_held (instances_of nodes.now (D.states drivers.new)) }

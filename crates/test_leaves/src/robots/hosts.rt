@@ -14,15 +14,15 @@ ghost use Rattle.run_loop.specs.Steps.{HaveRoom, event_side};
 ghost use Rattle.test_leaves.specs.Robots.Going.{CanGoOn};
 
 use base_outside::SureSink;
-use base_texts::{NoMemory, Stop};
+use base_texts::{Items, NoMemory, Stop};
 use run_arena::{Block, block_for};
 use run_driver::{Driver, hold_nothing};
-use run_leaves::{Conditions, Replay, Timed};
-use run_loop::{Runs, event, finish, leaves, runs_of};
+use run_leaves::{Conditions, Replay, Timed, Told};
+use run_loop::{Runs, event, finish, leaves, runs_of, tellings_fit};
 use spec_run::{JoinFault, RunFault};
 use spec_tree::Tree;
 use spec_tree_file::Elements;
-use spec_world::World;
+use spec_world::{Event, Telling, What, World};
 use std::alloc::Global;
 use std::process::Abort;
 use text_lines::{Names, names_of, write_block};
@@ -87,6 +87,52 @@ fn tell(alloc: Global, underway: &mut Underway) -> Result<(), NoMemory>
     }
 }
 
+/// What a leaf is told, once more. No row here tells values.
+fn telling_like(alloc: Global, telling: &Telling) -> Result<Telling, NoMemory>
+    ensures { IfOk result (λ like. like ≡ telling.now) }
+{
+    match telling {
+        Telling::Failure => Ok(Telling::Failure),
+        Telling::Success(outs) => match outs.list() {
+            [] => Ok(Telling::Success(Items::of(Vec::new(alloc)))),
+            _ => Err(NoMemory),
+        },
+    }
+}
+
+/// What an event does, once more.
+fn what_like(alloc: Global, what: &What) -> Result<What, NoMemory>
+    ensures { IfOk result (λ like. like ≡ what.now) }
+{
+    Ok(match what {
+        What::Tick(runner) => What::Tick(*runner),
+        What::Halt(runner) => What::Halt(*runner),
+        What::Change { fact, value } => What::Change {
+            fact: *fact,
+            value: *value,
+        },
+        What::Tell {
+            runner,
+            uid,
+            telling,
+        } => What::Tell {
+            runner: *runner,
+            uid: *uid,
+            telling: telling_like(alloc, telling)?,
+        },
+    })
+}
+
+/// An event of a list, once more, for the runs to take.
+fn event_like(alloc: Global, event: &Event) -> Result<Event, NoMemory>
+    ensures { IfOk result (λ like. like ≡ event.now) }
+{
+    Ok(Event {
+        at: event.at,
+        what: what_like(alloc, &event.what)?,
+    })
+}
+
 /// Makes the events of a world in order, and tells the block of each.
 fn make_events(
     rt: &impl Abort,
@@ -103,10 +149,11 @@ fn make_events(
     for next in world.events.list() {
         // The events of a world are in order, which is asserted here and not proved again.
         assert!(rt; underway.runs.last <= next.at);
+        let like = event_like(alloc, next)?;
         let made = event(
             alloc,
             &mut underway.runs,
-            next,
+            like,
             drivers,
             &mut underway.block,
         );
@@ -176,6 +223,8 @@ fn lack_text(alloc: Global, fault: &JoinFault) -> Result<String, NoMemory> {
             format!(in alloc; "NoRow {}", str::from_utf8(id.list()).unwrap_or("?"))?
         }
         JoinFault::NoDriver { kind } => format!(in alloc; "NoDriver {kind:?}")?,
+        JoinFault::NoLeaf { uid } => format!(in alloc; "NoLeaf {uid}")?,
+        JoinFault::NoOutput { uid } => format!(in alloc; "NoOutput {uid}")?,
     })
 }
 
@@ -187,6 +236,8 @@ fn joined_text(
     world: &World,
     drivers: &mut Vec<Box<dyn Driver>>,
 ) -> Result<String, NoMemory>
+    ghost of: { Setup }
+    requires setup { of ≡ record { tree = tree.now; world = world.now } }
     requires tree { IsRunnable tree.now }
     requires world { IsValidWorld world.now }
 {
@@ -194,6 +245,9 @@ fn joined_text(
     let slots = slots_of(alloc, tree)?;
     match runs_of(alloc, tree, &slots, world, drivers) {
         Ok(runs) => {
+            if let Err(fault) = tellings_fit(&runs, world.events.list()) {
+                return lack_text(alloc, &fault);
+            }
             let mut underway = begin(alloc, tree, world, &slots, runs)?;
             let ended = run(rt, alloc, &mut underway, world, drivers);
             trace_text(alloc, underway.lines.list(), ended)
@@ -266,6 +320,7 @@ fn told(rt: &impl Abort, alloc: Global, row: &Row) -> Result<String, NoMemory> {
     drivers.push(Box::new(alloc, Conditions::new(alloc))?)?;
     drivers.push(Box::new(alloc, Timed::new(alloc))?)?;
     drivers.push(Box::new(alloc, Replay::new(alloc))?)?;
+    drivers.push(Box::new(alloc, Told::new(alloc))?)?;
     assert!(rt; row.world.len() <= 1_048_576);
     match read_world(alloc, row.world.as_bytes()) {
         Ok(world) => {
@@ -407,6 +462,85 @@ node 1 RUNNING IDLE
 ",
 };
 
+/// The host tells a condition that it holds, and an action that it failed, and the second runner is told nothing.
+static TOLD: Row = Row {
+    nodes: "<Sequence><Ready/><Dock/></Sequence>",
+    world: "\
+bt-world 1
+runners 2
+condition Ready told
+action Dock told
+tick 1
+tell 1 2 SUCCESS
+at 20
+tick 1
+tell 1 3 FAILURE
+tick 2
+at 40
+tick 1
+",
+    want: "\
+tick 1 at 0
+node 1 IDLE RUNNING
+call 2 start FAILURE
+node 2 IDLE FAILURE
+node 2 FAILURE IDLE
+node 1 RUNNING FAILURE
+root 1 FAILURE
+node 1 FAILURE IDLE
+tell 1 2 SUCCESS at 0
+tick 1 at 20
+node 1 IDLE RUNNING
+call 2 start SUCCESS
+node 2 IDLE SUCCESS
+call 3 start RUNNING
+node 3 IDLE RUNNING
+root 1 RUNNING
+tell 1 3 FAILURE at 20
+tick 2 at 20
+node 1 IDLE RUNNING
+call 2 start FAILURE
+node 2 IDLE FAILURE
+node 2 FAILURE IDLE
+node 1 RUNNING FAILURE
+root 2 FAILURE
+node 1 FAILURE IDLE
+tick 1 at 40
+call 3 running FAILURE
+node 3 RUNNING FAILURE
+node 2 SUCCESS IDLE
+node 3 FAILURE IDLE
+node 1 RUNNING FAILURE
+root 1 FAILURE
+node 1 FAILURE IDLE
+finish 1 at 40
+finish 2 at 40
+",
+};
+
+/// What is told is for no leaf.
+static NO_LEAF: Row = Row {
+    nodes: "<Sequence><Wave/></Sequence>",
+    world: "\
+bt-world 1
+action Wave timed 100
+tell 1 2 FAILURE
+",
+    want: "NoLeaf 2",
+};
+
+/// A value is told for which the row has no output.
+static NO_OUTPUT: Row = Row {
+    nodes: "<Sequence><Dock/></Sequence>",
+    world: "\
+bt-world 1
+action Dock told
+out p
+tell 1 2 SUCCESS q=5
+",
+    want: "NoOutput 2",
+};
+
 /// A leaf without a row.
 static NO_ROW: Row = Row {
     nodes: "<Sequence><Wave/><Nod/></Sequence>",
@@ -483,6 +617,9 @@ fn hosts_run_trees(rt: HostRuntime) -> Result<(), NoMemory> {
             &NO_ROW,
             &NO_DRIVER,
             &DIVIDES_BY_ZERO,
+            &TOLD,
+            &NO_LEAF,
+            &NO_OUTPUT,
         ],
     )
 }

@@ -28,7 +28,7 @@ pub fn run_load<D: Drivers>(
 ) -> Result<(Vec<u8>, Ended), NoMemory>
     ghost of: { Setup }
     requires runs { CanRun of (D.states drivers.old) runs }
-    requires come { CanAllCome of.world runs.last events.now }
+    requires come { CanAllCome of runs.last events.now }
     ensures whole { IfOk result (λ told.
         IsLoad n of.tree (arenas_of runs) (length events.now) (D.states drivers.old) (D.states drivers.new) told.0.items told.1
         (trace_of of (D.states drivers.old) runs events.now)) }

@@ -65,14 +65,14 @@ fn gap_len(text: &[u8]) -> usize
 }
 
 /// How many bytes the word at the front has.
-fn word_len(text: &[u8]) -> usize
+pub fn word_len(text: &[u8]) -> usize
     ensures { result ≡ position_or_len is_gap text.now }
 {
     text.iter().take_while(|b| !is_blank(**b)).count()
 }
 
 /// The text without the gap at its front.
-fn after_gap(text: &[u8]) -> &[u8]
+pub fn after_gap(text: &[u8]) -> &[u8]
     ensures { result.now ≡ without_gap text.now }
 {
     let (_, rest) = text.split_at(gap_len(text));
@@ -111,4 +111,14 @@ pub fn cut(text: &[u8]) -> (&[u8], &[u8])
 {
     let (word, rest) = text.split_at(word_len(text));
     (word, after_gap(rest))
+}
+
+/// Whether nothing stands at the front, or a gap.
+pub fn is_apart(text: &[u8]) -> bool
+    ensures { result ≡ file.is_apart text.now }
+{
+    match text {
+        [byte, ..] => is_blank(*byte),
+        [] => true,
+    }
 }

@@ -2,7 +2,7 @@ ghost use Rattle.std.specs.Prelude.{◌≡◌, nat_abs, pos, true};
 ghost use Rattle.std.specs.Str.Parse.{signed_digits_value};
 ghost use Rattle.spec_tree.specs.Numbers.{in_range, is_int};
 ghost use Rattle.spec_tree.specs.Numbers as numbers;
-ghost use Rattle.spec_world_file.specs.WorldFile.{is_ms};
+ghost use Rattle.spec_world_file.specs.WorldFile.{is_ms, is_uid};
 ghost use Rattle.world_draft.specs.Lines.Ranges.{Passes};
 
 use base_tables::{LAST_MOMENT, canonical_int};
@@ -39,4 +39,12 @@ pub fn one_of(word: &[u8], most: u8) -> Option<u8>
     } else {
         None
     }
+}
+
+/// The uid that the word writes. None where it would not fit 32 bits.
+pub fn uid(word: &[u8]) -> Option<u32>
+    requires { numbers.is_canonical word.now ≡ true }
+    ensures { Passes is_uid nat_abs (signed_digits_value 10 word.now) result }
+{
+    u32::try_from(int(word)?).ok()
 }

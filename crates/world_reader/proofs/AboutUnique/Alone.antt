@@ -3,10 +3,12 @@ use Rattle.std.proofs.Common.{◌≡◌, ℕ, ◌+◌, Bool, true, false, List, 
 use Rattle.std.specs.Prelude.{MatchBool, bytes_eq, codes}
 use Rattle.spec_script.specs.declared.syntax.Expr.{Expr}
 use Rattle.script_reader.proofs.Exclusive.{one-expr}
+use Rattle.spec_world.specs.declared.world.ToldOut.{ToldOut}
 use Rattle.spec_world.specs.declared.world.World.{World}
 use Rattle.spec_world_file.specs.declared.world_fault.WorldFault.{WorldFault}
 use Rattle.spec_world_file.specs.declared.world_fault.WorldKind.{WorldKind}
-use Rattle.spec_world_file.specs.WorldFile.{Line, FactLine, IsLine, WhenLine, TimedLine, ReplayLine, GateLine, FailsLine, NeedsLine, SetsLine, OutLine, GoalLine, RunnersLine, AtLine, TickLine, HaltLine, SetLine, AfterForm, AfterLine, AfterLines, AfterText, GoesOn, LinesMake, LinesRead, Reading, ReadsNumeric, ReadsWorld, SaysOf, by_expr, content, is_ignored, line_in, lines_in, no_header, nothing_read, without_return, world_after}
+use Rattle.spec_world_file.specs.WorldFile.{Line, FactLine, IsLine, WhenLine, TimedLine, ReplayLine, GateLine, SensedLine, ToldLine, FailsLine, NeedsLine, SetsLine, OutLine, NameLine, GoalLine, RunnersLine, AtLine, TickLine, HaltLine, SetLine, TellLine, AfterForm, AfterLine, AfterLines, AfterText, GoesOn, LinesMake, LinesRead, Reading, ReadsNumeric, ReadsOuts, ReadsTold, ReadsWorld, SaysOf, SaysOfOuts, by_expr, by_outs, content, is_ignored, line_in, lines_in, no_header, nothing_read, without_gap, without_return, world_after}
+use Rattle.world_draft.proofs.AboutLines.Telling.{never_begins, one_out}
 
 one_numeric : (text : List ℕ) (a b : Option Expr) → ReadsNumeric text a → ReadsNumeric text b → a ≡ b
 one_numeric text None None h k = refl
@@ -17,6 +19,24 @@ one_numeric text (Some e) (Some f) h k = ap (λ (x : Expr). Some x) (one-expr te
 one_saying : (text : List ℕ) (rule : Expr → Result Reading WorldKind) (a b : Result Reading WorldKind) → SaysOf text rule a → SaysOf text rule b → a ≡ b
 one_saying text rule a b h k = h.is ∙ ap (λ (o : Option Expr). by_expr o rule) (one_numeric text h.expr k.expr h.reads k.reads) ∙ sym k.is
 
+one_telling : (a b : List ToldOut) (text : List ℕ) → ReadsOuts a text → ReadsOuts b text → a ≡ b
+one_telling [] [] text h k = refl
+one_telling [] (out ∷ outs) text h k = absurd (never_begins text out k.0 h k.1)
+one_telling (out ∷ outs) [] text h k = absurd (never_begins text out h.0 k h.1)
+one_telling (out ∷ outs) (other ∷ others) text h k =
+    let same = one_out text out other h.0 k.0 h.1 k.1 in
+    let more = one_telling outs others (without_gap h.0) h.2 (subst (λ (rest : List ℕ). ReadsOuts others (without_gap rest)) (sym same.1) k.2) in
+    ap (λ (o : ToldOut). o ∷ outs) same.0 ∙ ap (λ (os : List ToldOut). other ∷ os) more
+
+one_told : (text : List ℕ) (a b : Option (List ToldOut)) → ReadsTold text a → ReadsTold text b → a ≡ b
+one_told text None None h k = refl
+one_told text None (Some outs) h k = absurd (h outs k)
+one_told text (Some outs) None h k = absurd (k outs h)
+one_told text (Some outs) (Some others) h k = ap (λ (os : List ToldOut). Some os) (one_telling outs others text h k)
+
+one_said : (text : List ℕ) (rule : List ToldOut → Result Reading WorldKind) (a b : Result Reading WorldKind) → SaysOfOuts text rule a → SaysOfOuts text rule b → a ≡ b
+one_said text rule a b h k = h.is ∙ ap (λ (o : Option (List ToldOut)). by_outs o rule) (one_told text h.outs k.outs h.reads k.reads) ∙ sym k.is
+
 one_line : (r : Reading) (line : Line) (a b : Result Reading WorldKind) → AfterLine r line a → AfterLine r line b → a ≡ b
 one_line r (FactLine name opening) a b h k = h ∙ sym k
 one_line r (IsLine id fact op value) a b h k = h ∙ sym k
@@ -24,16 +44,20 @@ one_line r (WhenLine head expr) a b h k = one_saying expr _ a b h k
 one_line r (TimedLine head ms) a b h k = h ∙ sym k
 one_line r (ReplayLine head ms outcomes) a b h k = h ∙ sym k
 one_line r (GateLine head expr) a b h k = one_saying expr _ a b h k
+one_line r (SensedLine head) a b h k = h ∙ sym k
+one_line r (ToldLine head) a b h k = h ∙ sym k
 one_line r (FailsLine expr) a b h k = one_saying expr _ a b h k
 one_line r (NeedsLine id) a b h k = h ∙ sym k
 one_line r (SetsLine fact how value) a b h k = h ∙ sym k
 one_line r (OutLine port expr) a b h k = one_saying expr _ a b h k
+one_line r (NameLine port) a b h k = h ∙ sym k
 one_line r (GoalLine id) a b h k = h ∙ sym k
 one_line r (RunnersLine count) a b h k = h ∙ sym k
 one_line r (AtLine ms) a b h k = h ∙ sym k
 one_line r (TickLine runner) a b h k = h ∙ sym k
 one_line r (HaltLine runner) a b h k = h ∙ sym k
 one_line r (SetLine fact value) a b h k = h ∙ sym k
+one_line r (TellLine runner uid succeeds outs) a b h k = one_said outs _ a b h k
 
 one_form : (r : Reading) (o : Option Line) (a b : Result Reading WorldKind) → AfterForm r o a → AfterForm r o b → a ≡ b
 one_form r None a b h k = h ∙ sym k

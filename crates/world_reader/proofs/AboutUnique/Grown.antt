@@ -13,9 +13,9 @@ use Rattle.spec_world.specs.declared.world.Event.{Event}
 use Rattle.spec_world.specs.declared.world.Fact.{Fact}
 use Rattle.spec_world.specs.declared.world.Row.{Row}
 use Rattle.spec_world.specs.declared.world.RowSort.{RowSort}
-use Rattle.spec_world.specs.declared.world.RowSort.TheVariants.{Is, When, Timed, Replay, Gate}
+use Rattle.spec_world.specs.declared.world.RowSort.TheVariants.{Is, When, Timed, Replay, Gate, Sensed, Told}
 use Rattle.spec_world.specs.declared.world.What.{What}
-use Rattle.spec_world.specs.declared.world.What.TheVariants.{Tick, Halt, Change}
+use Rattle.spec_world.specs.declared.world.What.TheVariants.{Tick, Halt, Change, Tell}
 use Rattle.spec_world.specs.declared.world.World.{World}
 use Rattle.spec_world.specs.Worlds.{AreNames, AreNumbers, IsComparisonIn, IsExprOver, IsValidEvent, IsValidRow, IsValidSet, IsValidSort, IsValidWhat, IsValidWorld, comparisons, ids_of_rows, is_comparison, is_name, names_of_facts}
 use Rattle.spec_tree.specs.Numbers.{is_int}
@@ -82,6 +82,8 @@ module _ (facts : List Fact) (fact : Fact) where
   sort_more ports (Timed ms fails) h = (h.0, fails_more ports fails h.1)
   sort_more ports (Replay ms outcomes) h = h
   sort_more ports (Gate e) h = expr_more ports e h
+  sort_more ports Sensed h = h
+  sort_more ports (Told outs) h = h
 
   row_more : (rows : List Row) (row : Row) → IsValidRow facts rows row → IsValidRow more_facts rows row
   row_more rows row h = record {
@@ -101,6 +103,7 @@ module _ (facts : List Fact) (fact : Fact) where
   what_more runners (Tick runner) h = h
   what_more runners (Halt runner) h = h
   what_more runners (Change n value) h = (below_more n h.0, h.1)
+  what_more runners (Tell runner uid telling) h = h
 
   pub world_with_fact : (w : World) → w.facts ≡ facts → IsValidWorld w → is_name fact.name ≡ true → list_any (bytes_eq fact.name) (names_of_facts facts) ≡ false → length facts < 1024 → is_int fact.opening ≡ true → IsValidWorld (record w { facts = more_facts })
   world_with_fact w is h named free room int =

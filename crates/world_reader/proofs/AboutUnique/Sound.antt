@@ -1,6 +1,6 @@
 -- The world that lines make is valid after each of them.
-use Rattle.std.proofs.Common.{◌≡◌, ℕ, ◌<◌, ◌≤◌, Bool, true, false, not, ◌||◌, ◌==◌, List, [], ◌∷◌, ◌++◌, map, length, ℤ, pos, negsuc, Option, Some, None, Result, Ok, Err, refl, sym, ap, ◌∙◌, subst, arith, if◌then◌else◌}
-use Rattle.std.specs.Prelude.{IsTrue, IfSome, bytes_eq, nat_eq, nat_le, nat_lt, nat_abs, is_some, option_and_then, option_map, position, slice_get}
+use Rattle.std.proofs.Common.{◌≡◌, ℕ, ◌<◌, ◌≤◌, ◌^◌, Bool, true, false, not, ◌||◌, ◌==◌, List, [], ◌∷◌, ◌++◌, map, length, ℤ, pos, negsuc, Option, Some, None, Result, Ok, Err, refl, sym, ap, ◌∙◌, subst, arith, if◌then◌else◌}
+use Rattle.std.specs.Prelude.{IsTrue, bytes_eq, nat_eq, nat_le, nat_lt, nat_abs, is_some, option_and_then, option_map, position, slice_get}
 use Rattle.std.specs.Option.{option_to_list}
 use Rattle.std.specs.List.{All, Contains, IsDistinct, list_any}
 use Rattle.std.proofs.lemmas.Cmp.{nat_list_eq_equiv}
@@ -28,9 +28,9 @@ use Rattle.spec_world.specs.declared.world.Fact.{Fact}
 use Rattle.spec_world.specs.declared.world.Row.{Row}
 use Rattle.spec_world.specs.declared.world.What.{What}
 use Rattle.spec_world_file.specs.declared.world_fault.WorldKind.{WorldKind}
-use Rattle.spec_world.specs.Worlds.{AreNames, AreNumbers, IsComparisonIn, IsExprOver, IsValidWhat, IsValidWorld, ids_of_rows, is_comparison, is_condition, is_name, names_of_facts}
+use Rattle.spec_world.specs.Worlds.{AreNames, AreNumbers, IsComparisonIn, IsExprOver, IsValidWhat, IsValidWorld, ids_of_rows, is_comparison, is_name, names_of_facts}
 use Rattle.spec_tree.specs.Numbers.{in_range, is_int}
-use Rattle.spec_world_file.specs.WorldFile.{Reading, ReadsNumeric, closed, comparison_number, fact_number, is_known, is_ms, knows_all, numbered, placed, ranged, repeats, runners_of, where_compares, with_event, with_fact, with_goal, with_moment, with_runners, world_of}
+use Rattle.spec_world_file.specs.WorldFile.{Reading, ReadsNumeric, closed, comparison_number, fact_number, is_known, is_ms, is_uid, knows_all, numbered, placed, ranged, repeats, runners_of, where_compares, with_event, with_fact, with_goal, with_moment, with_runners, world_of}
 use Rattle.world_reader.proofs.AboutUnique.Grown.{world_with_event, world_with_fact, world_with_goal, world_with_runners}
 
 -- the world so far is valid
@@ -38,7 +38,6 @@ pub record Sound (r : Reading) : Type 0 where
   pub world : IsValidWorld (world_of r)
   pub late : All (λ e. e.at ≤ r.moment) r.events
   pub moment : r.moment ≤ 1000000000000
-  pub action : IfSome r.open_row (λ row. is_condition row.sort ≡ false)
 
 abbrev pub Stays : Result Reading WorldKind → Type 0
 Stays (Ok r) = Sound r
@@ -83,6 +82,10 @@ at_most a b h = grind (arith, nat_tests)
 pub ms_most : (z : ℤ) → is_ms z ≡ true → nat_abs z ≤ 1000000000000
 ms_most (pos n) h = grind (arith, nat_tests)
 ms_most (negsuc n) h = absurd (cc)
+
+pub uid_within : (z : ℤ) → is_uid z ≡ true → nat_abs z < 2 ^ 32
+uid_within (pos n) h = grind (arith, nat_tests)
+uid_within (negsuc n) h = absurd (cc)
 
 pub runner_within : (most : ℕ) (z : ℤ) → in_range (pos 1) (pos most) z ≡ true → (1 ≤ nat_abs z) × (nat_abs z ≤ most)
 runner_within most (pos n) h = let k = both (nat_le 1 n) (nat_le n most) h in (grind (arith, nat_tests), grind (arith, nat_tests))
@@ -167,7 +170,6 @@ sound_closed r h = record {
   world = subst (λ (rows : List Row). IsValidWorld (record (world_of r) { rows = rows })) (sym (append-nil (r.rows ++ option_to_list r.open_row))) h.world;
   late = h.late;
   moment = h.moment;
-  action = tt;
 }
 
 pub stays_fact : (r : Reading) (name : List ℕ) (opening : ℤ) → Sound r → is_name name ≡ true → is_int opening ≡ true → Stays (with_fact name opening r)
@@ -178,7 +180,6 @@ stays_fact r name opening h named int =
       world = world_with_fact r.facts (record { name = name; opening = opening }) (world_of r) refl h.world named free (below 1024 (length r.facts) room) int;
       late = h.late;
       moment = h.moment;
-      action = h.action;
     }))
 
 pub stays_goal : (r : Reading) (n : ℕ) → Sound r → IsComparisonIn (closed r).rows n → Stays (with_goal n r)
@@ -189,7 +190,6 @@ stays_goal r n h there =
       world = world_with_goal (world_of r) n h.world there free (below 64 (length r.goals) room);
       late = h.late;
       moment = h.moment;
-      action = h.action;
     }))
 
 none_left : {X : Type 0} (xs : List X) → (length xs == 0) ≡ true → xs ≡ []
@@ -203,7 +203,6 @@ stays_runners r count h none within =
       world = world_with_runners (world_of r) count h.world (none_left r.events none) within.0 within.1;
       late = h.late;
       moment = h.moment;
-      action = h.action;
     })
 
 pub stays_moment : (r : Reading) (ms : ℕ) → Sound r → ms ≤ 1000000000000 → Stays (with_moment ms r)
@@ -213,7 +212,6 @@ stays_moment r ms h most =
       world = h.world;
       late = All-weaker (λ e. e.at ≤ r.moment) (λ e. e.at ≤ ms) (λ e k. omega (arith, at_most ms r.moment on)) r.events h.late;
       moment = most;
-      action = h.action;
     })
 
 pub stays_event : (r : Reading) (what : What) → Sound r → IsValidWhat r.facts (runners_of r) what → Stays (with_event what r)
@@ -224,5 +222,4 @@ stays_event r what h valid =
       world = world_with_event (world_of r) event h.world (h.moment, valid) h.late (below 100000 (length r.events) room);
       late = All-push (λ e. e.at ≤ r.moment) r.events event h.late (omega arith);
       moment = h.moment;
-      action = h.action;
     })

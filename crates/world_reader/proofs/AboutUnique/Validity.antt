@@ -1,5 +1,7 @@
 -- A world that a file reads as is valid.
-use Rattle.std.proofs.Common.{◌≡◌, ℕ, ◌+◌, ◌≤◌, Bool, true, false, List, [], ◌∷◌, ◌++◌, length, pos, Option, Some, None, Result, Ok, Err, refl, sym, subst, arith}
+use Rattle.std.proofs.Common.{◌≡◌, ℕ, ◌+◌, ◌≤◌, Bool, true, false, ◌&&◌, List, [], ◌∷◌, ◌++◌, length, pos, Option, Some, None, Result, Ok, Err, refl, sym, subst, arith}
+use Rattle.std.specs.List.{list_all}
+use Rattle.spec_script.proofs.Bools.{both}
 use Rattle.std.specs.Prelude.{IsTrue, MatchBool, bytes_eq, codes, nat_abs, ◌==◌}
 use Rattle.std.proofs.lemmas.List.{append-nil}
 use Rattle.std.proofs.lemmas.List.Elements.{All-nil}
@@ -8,19 +10,21 @@ use Rattle.spec_script.specs.declared.syntax.Expr.{Expr}
 use Rattle.spec_world.specs.declared.world.Event.{Event}
 use Rattle.spec_world.specs.declared.world.Fact.{Fact}
 use Rattle.spec_world.specs.declared.world.Row.{Row}
-use Rattle.spec_world.specs.declared.world.RowSort.TheVariants.{When, Timed, Replay, Gate}
+use Rattle.spec_world.specs.declared.world.RowSort.TheVariants.{When, Timed, Replay, Gate, Sensed, Told}
 use Rattle.spec_world.specs.declared.world.Set.{Set}
-use Rattle.spec_world.specs.declared.world.What.TheVariants.{Tick, Halt, Change}
+use Rattle.spec_world.specs.declared.world.What.TheVariants.{Tick, Halt, Change, Tell}
+use Rattle.spec_world.specs.declared.world.ToldOut.{ToldOut}
 use Rattle.spec_world.specs.declared.world.World.{World}
 use Rattle.spec_world_file.specs.declared.world_fault.WorldFault.{WorldFault}
 use Rattle.spec_world_file.specs.declared.world_fault.WorldKind.{WorldKind}
 use Rattle.spec_world.specs.Worlds.{IsComparisonIn, IsValidEvent, IsValidRow, IsValidWorld}
 use Rattle.spec_tree.specs.Numbers.{in_range, is_int}
-use Rattle.spec_world_file.specs.WorldFile.{Line, FactLine, IsLine, WhenLine, TimedLine, ReplayLine, GateLine, FailsLine, NeedsLine, SetsLine, OutLine, GoalLine, RunnersLine, AtLine, TickLine, HaltLine, SetLine, AfterForm, AfterLine, AfterLines, AfterText, GoesOn, LinesMake, LinesRead, Reading, ReadsNumeric, ReadsWorld, SaysOf, by_expr, closed, comparison_number, content, fact_number, is_ms, is_ignored, is_runner, line_in, lines_in, no_header, nothing_read, plain_row, row_with_effect, row_with_fails, row_with_need, row_with_out, runners_of, with_action, with_row, without_return, world_after, world_of}
+use Rattle.spec_world_file.specs.WorldFile.{Line, FactLine, IsLine, WhenLine, TimedLine, ReplayLine, GateLine, SensedLine, ToldLine, FailsLine, NeedsLine, SetsLine, OutLine, NameLine, GoalLine, RunnersLine, AtLine, TickLine, HaltLine, SetLine, TellLine, AfterForm, AfterLine, AfterLines, AfterText, GoesOn, LinesMake, LinesRead, Reading, ReadsNumeric, ReadsOuts, ReadsTold, ReadsWorld, SaysOf, SaysOfOuts, by_expr, by_outs, closed, comparison_number, content, fact_number, is_ms, is_ignored, is_runner, is_small, is_uid, line_in, lines_in, no_header, nothing_read, plain_row, row_with_effect, row_with_fails, row_with_name, row_with_need, row_with_out, runners_of, telling_of, where_modelled, with_action, with_event, with_row, without_return, world_after, world_of}
 use Rattle.world_reader.proofs.AboutUnique.WellFormed.{AreWell, WellFormed, line_well}
 use Rattle.world_reader.proofs.AboutUnique.Grown.{kept_more}
-use Rattle.world_reader.proofs.AboutUnique.Sound.{Sound, Stays, comparison_there, fact_there, ms_most, no_names, no_numbers, runner_within, sound_closed, stays_event, stays_fact, stays_goal, stays_moment, stays_numbered, stays_placed, stays_ranged, stays_runners, valid_expr}
-use Rattle.world_reader.proofs.AboutUnique.SoundRows.{adds_effect, adds_fails, adds_need, adds_out, stays_action, stays_comparison, stays_head, stays_open, stays_row}
+use Rattle.world_reader.proofs.AboutUnique.Sound.{Sound, Stays, comparison_there, fact_there, ms_most, no_names, no_numbers, runner_within, sound_closed, uid_within, stays_event, stays_fact, stays_goal, stays_moment, stays_numbered, stays_placed, stays_ranged, stays_runners, valid_expr}
+use Rattle.world_reader.proofs.AboutUnique.SoundRows.{adds_effect, adds_fails, adds_name, adds_need, adds_out, stays_action, stays_comparison, stays_head, stays_modelled, stays_open, stays_placed_open, stays_row}
+use Rattle.world_reader.proofs.AboutUnique.SoundTellings.{stays_telling}
 
 stays_says : (text : List ℕ) (rule : Expr → Result Reading WorldKind) (said : Result Reading WorldKind) → SaysOf text rule said → ((e : Expr) → ReadsNumeric text (Some e) → Stays (rule e)) → Stays said
 stays_says text rule said k h = subst Stays (sym k.is) (by k.expr k.reads)
@@ -28,6 +32,13 @@ stays_says text rule said k h = subst Stays (sym k.is) (by k.expr k.reads)
     by : (o : Option Expr) → ReadsNumeric text o → Stays (by_expr o rule)
     by None reads = tt
     by (Some e) reads = h e reads
+
+stays_outs : (text : List ℕ) (rule : List ToldOut → Result Reading WorldKind) (said : Result Reading WorldKind) → SaysOfOuts text rule said → ((outs : List ToldOut) → ReadsOuts outs text → Stays (rule outs)) → Stays said
+stays_outs text rule said k h = subst Stays (sym k.is) (by k.outs k.reads)
+  where
+    by : (o : Option (List ToldOut)) → ReadsTold text o → Stays (by_outs o rule)
+    by None reads = tt
+    by (Some outs) reads = h outs reads
 
 stays_line : (r : Reading) (line : Line) (said : Result Reading WorldKind) → WellFormed line → Sound r → AfterLine r line said → Stays said
 stays_line r (FactLine name opening) said w h k =
@@ -39,24 +50,30 @@ stays_line r (WhenLine head expr) said w h k =
     (λ may. stays_row (closed r) (plain_row head.id head.ports (When e)) refl (sound_closed r h) may))
 stays_line r (TimedLine head ms) said w h k =
     subst Stays (sym k) (stays_ranged (is_ms ms) _ (λ m. stays_head (closed r) head with_action (Timed (nat_abs ms) None) w (λ known. (ms_most ms m, tt))
-    (λ may. stays_action (closed r) (plain_row head.id head.ports (Timed (nat_abs ms) None)) refl refl (sound_closed r h) may)))
+    (λ may. stays_action (closed r) (plain_row head.id head.ports (Timed (nat_abs ms) None)) refl (sound_closed r h) may)))
 stays_line r (ReplayLine head ms outcomes) said w h k =
     subst Stays (sym k) (stays_ranged (is_ms ms) _ (λ m. stays_head (closed r) head with_action (Replay (nat_abs ms) outcomes) w.0 (λ known. (ms_most ms m, w.1, w.2))
-    (λ may. stays_action (closed r) (plain_row head.id head.ports (Replay (nat_abs ms) outcomes)) refl refl (sound_closed r h) may)))
+    (λ may. stays_action (closed r) (plain_row head.id head.ports (Replay (nat_abs ms) outcomes)) refl (sound_closed r h) may)))
 stays_line r (GateLine head expr) said w h k =
     stays_says expr _ said k (λ e reads. stays_head (closed r) head with_action (Gate e) w (λ known. valid_expr expr head.ports r.facts e reads known)
-    (λ may. stays_action (closed r) (plain_row head.id head.ports (Gate e)) refl refl (sound_closed r h) may))
+    (λ may. stays_action (closed r) (plain_row head.id head.ports (Gate e)) refl (sound_closed r h) may))
+stays_line r (SensedLine head) said w h k =
+    subst Stays (sym k) (stays_head (closed r) head with_row Sensed w (λ known. tt) (λ may. stays_row (closed r) (plain_row head.id head.ports Sensed) refl (sound_closed r h) may))
+stays_line r (ToldLine head) said w h k =
+    subst Stays (sym k) (stays_head (closed r) head with_action (Told []) w (λ known. no_names 8) (λ may. stays_action (closed r) (plain_row head.id head.ports (Told [])) refl (sound_closed r h) may))
 stays_line r (FailsLine expr) said w h k =
-    stays_says expr _ said k (λ e reads. stays_open r (row_with_fails r.facts e) h (λ row action valid. adds_fails r.facts (r.rows ++ row ∷ []) row expr e valid reads))
+    stays_says expr _ said k (λ e reads. stays_open r (row_with_fails r.facts e) h (λ row valid. adds_fails r.facts (r.rows ++ row ∷ []) row expr e valid reads))
 stays_line r (NeedsLine id) said w h k =
     subst Stays (sym k) (stays_placed _ _ (λ placed. stays_numbered (comparison_number r.rows id) _ (λ n is.
-    stays_open r (row_with_need n) h (λ row action valid. adds_need r.facts (r.rows ++ row ∷ []) row n action valid (kept_more r.rows row n (comparison_there r.rows id n is))))))
+    stays_placed_open r (row_with_need n) placed h (λ row modelled valid. adds_need r.facts (r.rows ++ row ∷ []) row n modelled valid (kept_more r.rows row n (comparison_there r.rows id n is))))))
 stays_line r (SetsLine fact how value) said w h k =
     subst Stays (sym k) (stays_placed _ _ (λ placed. stays_ranged (is_int value) _ (λ int. stays_numbered (fact_number r.facts fact) _ (λ n is.
     let effect : Set = record { fact = n; how = how; value = value } in
-    stays_open r (row_with_effect effect) h (λ row action valid. adds_effect r.facts (r.rows ++ row ∷ []) row effect action valid (fact_there r.facts fact n is) int)))))
+    stays_placed_open r (row_with_effect effect) placed h (λ row modelled valid. adds_effect r.facts (r.rows ++ row ∷ []) row effect modelled valid (fact_there r.facts fact n is) int)))))
 stays_line r (OutLine port expr) said w h k =
-    stays_says expr _ said k (λ e reads. stays_open r (row_with_out r.facts port e) h (λ row action valid. adds_out r.facts (r.rows ++ row ∷ []) row expr port e action valid w reads))
+    stays_says expr _ said k (λ e reads. stays_modelled r (row_with_out r.facts port e) h (λ row modelled valid. adds_out r.facts (r.rows ++ row ∷ []) row expr port e modelled valid w reads))
+stays_line r (NameLine port) said w h k =
+    subst Stays (sym k) (stays_open r (row_with_name port) h (λ row valid. adds_name r.facts (r.rows ++ row ∷ []) row port valid w))
 stays_line r (GoalLine id) said w h k =
     subst Stays (sym k) (stays_numbered (comparison_number (closed r).rows id) _ (λ n is.
     stays_goal (closed r) n (sound_closed r h) (there n (comparison_there (closed r).rows id n is))))
@@ -75,6 +92,14 @@ stays_line r (HaltLine runner) said w h k =
 stays_line r (SetLine fact value) said w h k =
     subst Stays (sym k) (stays_ranged (is_int value) _ (λ int. stays_numbered (fact_number r.facts fact) _ (λ n is.
     stays_event (closed r) (Change n value) (sound_closed r h) (fact_there r.facts fact n is, int))))
+stays_line r (TellLine runner uid succeeds outs) said w h k =
+    stays_outs outs _ said k (λ told reads.
+    stays_ranged (is_runner (runners_of r) runner && is_uid uid && list_all (λ out. is_small out.value) told) _ (λ within.
+    let numbers = both (is_runner (runners_of r) runner && is_uid uid) (list_all (λ out. is_small out.value) told) within in
+    let leaf = both (is_runner (runners_of r) runner) (is_uid uid) numbers.0 in
+    let of_runner = runner_within (runners_of r) runner leaf.0 in
+    stays_telling told outs succeeds _ reads numbers.1 (λ valid.
+    stays_event (closed r) (Tell (nat_abs runner) (nat_abs uid) (telling_of succeeds told)) (sound_closed r h) (of_runner.0, of_runner.1, uid_within uid leaf.1, valid))))
 
 stays_form : (r : Reading) (o : Option Line) (said : Result Reading WorldKind) → AreWell WellFormed o → Sound r → AfterForm r o said → Stays said
 stays_form r None said w h k = subst Stays (sym k) tt
@@ -118,7 +143,6 @@ sound_nothing = record {
   };
   late = All-nil (λ (e : Event). e.at ≤ 0);
   moment = omega arith;
-  action = tt;
 }
 
 valid_after : (after : Result Reading WorldFault) (w : World) → StaysAfter after → Ok w ≡ world_after after → IsValidWorld w

@@ -8,7 +8,7 @@ use Rattle.spec_script.proofs.Bools.{both}
 use Rattle.spec_script.specs.declared.syntax.Cmp.{Cmp}
 use Rattle.spec_world.specs.declared.world.How.{How}
 use Rattle.spec_world.specs.Worlds.{is_name}
-use Rattle.spec_world_file.specs.WorldFile.{Line, FactLine, IsLine, WhenLine, TimedLine, ReplayLine, GateLine, FailsLine, NeedsLine, SetsLine, OutLine, GoalLine, RunnersLine, AtLine, TickLine, HaltLine, SetLine, Head, head_with, head_of, head_in, comparison_in, outcomes_in, name_line, number_line, named_number, how_in, sets_line, out_line, is_line, condition_line, timed_line, replay_line, action_line, event_line, line_by, line_in, word, following, ends_after, is_line_byte}
+use Rattle.spec_world_file.specs.WorldFile.{Line, FactLine, IsLine, WhenLine, TimedLine, ReplayLine, GateLine, SensedLine, ToldLine, FailsLine, NeedsLine, SetsLine, OutLine, NameLine, GoalLine, RunnersLine, AtLine, TickLine, HaltLine, SetLine, TellLine, Head, head_with, head_of, head_in, comparison_in, outcomes_in, name_line, number_line, named_number, how_in, sets_line, out_line, is_line, condition_line, timed_line, replay_line, told_line, action_line, success_in, tell_line, event_line, line_by, line_in, word, following, ends_after, is_line_byte}
 use Rattle.spec_tree.specs.Numbers.{number_in}
 
 pub record NamedHead (head : Head) : Type 0 where
@@ -23,7 +23,10 @@ WellFormed (WhenLine head expr) = NamedHead head
 WellFormed (TimedLine head ms) = NamedHead head
 WellFormed (ReplayLine head ms outcomes) = NamedHead head × (1 ≤ length outcomes) × (length outcomes ≤ 64)
 WellFormed (GateLine head expr) = NamedHead head
+WellFormed (SensedLine head) = NamedHead head
+WellFormed (ToldLine head) = NamedHead head
 WellFormed (OutLine port expr) = is_name port ≡ true
+WellFormed (NameLine port) = is_name port ≡ true
 WellFormed _ = Unit {0}
 
 abbrev pub AreWell : {X : Type 0} → (X → Type 0) → Option X → Type 0
@@ -45,6 +48,10 @@ mapped_by Q P f (Some x) q h = h x q
 chained : {X Y : Type 0} (Q : X → Type 0) (P : Y → Type 0) (f : X → Option Y) (o : Option X) → AreWell Q o → ((x : X) → Q x → AreWell P (f x)) → AreWell P (option_and_then f o)
 chained Q P f None q h = tt
 chained Q P f (Some x) q h = h x q
+
+anything : {X : Type 0} (o : Option X) → AreWell (λ (x : X). Unit {0}) o
+anything None = tt
+anything (Some x) = tt
 
 with_well : (id : List ℕ) (ports : List (List ℕ)) → AreWell NamedHead (head_with id ports)
 with_well id ports =
@@ -91,17 +98,13 @@ sets_well : (text : List ℕ) → AreWell WellFormed (sets_line text)
 sets_well text =
     pick WellFormed (is_name (word 0 text) && ends_after 3 text)
     (option_and_then (λ how. option_map (SetsLine (word 0 text) how) (number_in (word 2 text))) (how_in (word 1 text))) None
-    (λ k. chained (λ (how : How). Unit {0}) WellFormed (λ how. option_map (SetsLine (word 0 text) how) (number_in (word 2 text))) (how_in (word 1 text)) (any (how_in (word 1 text)))
+    (λ k. chained (λ (how : How). Unit {0}) WellFormed (λ how. option_map (SetsLine (word 0 text) how) (number_in (word 2 text))) (how_in (word 1 text)) (anything (how_in (word 1 text)))
     (λ how u. mapped WellFormed (SetsLine (word 0 text) how) (number_in (word 2 text)) (λ z. tt))) tt
-  where
-    any : (o : Option How) → AreWell (λ how. Unit {0}) o
-    any None = tt
-    any (Some how) = tt
 
 out_well : (text : List ℕ) → AreWell WellFormed (out_line text)
 out_well text =
-    pick WellFormed (is_name (word 0 text) && bytes_eq (word 1 text) (codes "=")) (Some (OutLine (word 0 text) (following 2 text))) None
-    (λ k. (both (is_name (word 0 text)) (bytes_eq (word 1 text) (codes "=")) k).0) tt
+    pick WellFormed (is_name (word 0 text) && bytes_eq (word 1 text) (codes "=")) (Some (OutLine (word 0 text) (following 2 text))) (name_line NameLine text)
+    (λ k. (both (is_name (word 0 text)) (bytes_eq (word 1 text) (codes "=")) k).0) (name_well NameLine text (λ w h. h))
 
 is_well : (id text : List ℕ) → AreWell WellFormed (is_line id text)
 is_well id text =
@@ -109,28 +112,25 @@ is_well id text =
     (option_and_then (λ op. option_map (IsLine id (word 0 text) op) (number_in (word 2 text))) (comparison_in (word 1 text))) None
     (λ k.
     let named = (both (is_name id) (is_name (word 0 text)) (both (is_name id && is_name (word 0 text)) (ends_after 3 text) k).0).0 in
-    chained (λ (op : Cmp). Unit {0}) WellFormed (λ op. option_map (IsLine id (word 0 text) op) (number_in (word 2 text))) (comparison_in (word 1 text)) (any (comparison_in (word 1 text)))
+    chained (λ (op : Cmp). Unit {0}) WellFormed (λ op. option_map (IsLine id (word 0 text) op) (number_in (word 2 text))) (comparison_in (word 1 text)) (anything (comparison_in (word 1 text)))
     (λ op u. mapped WellFormed (IsLine id (word 0 text) op) (number_in (word 2 text)) (λ z. named))) tt
-  where
-    any : (o : Option Cmp) → AreWell (λ op. Unit {0}) o
-    any None = tt
-    any (Some op) = tt
+
+told_well : (line : Head → Line) (row text : List ℕ) → ((head : Head) → NamedHead head → WellFormed (line head)) → AreWell WellFormed (told_line line row text)
+told_well line row text h = pick WellFormed (length text == 0) (option_map line (head_in row)) None (λ k. mapped_by NamedHead WellFormed line (head_in row) (head_well row) h) tt
 
 condition_well : (text : List ℕ) → AreWell WellFormed (condition_line text)
 condition_well text =
     pick WellFormed (bytes_eq (word 1 text) (codes "is")) (is_line (word 0 text) (following 2 text)) _ (λ k. is_well (word 0 text) (following 2 text))
-    (pick WellFormed (bytes_eq (word 1 text) (codes "when")) (option_map (λ head. WhenLine head (following 2 text)) (head_in (word 0 text))) None
-    (λ k. mapped_by NamedHead WellFormed (λ head. WhenLine head (following 2 text)) (head_in (word 0 text)) (head_well (word 0 text)) (λ head h. h)) tt)
+    (pick WellFormed (bytes_eq (word 1 text) (codes "when")) (option_map (λ head. WhenLine head (following 2 text)) (head_in (word 0 text))) _
+    (λ k. mapped_by NamedHead WellFormed (λ head. WhenLine head (following 2 text)) (head_in (word 0 text)) (head_well (word 0 text)) (λ head h. h))
+    (pick WellFormed (bytes_eq (word 1 text) (codes "told")) (told_line SensedLine (word 0 text) (following 2 text)) None
+    (λ k. told_well SensedLine (word 0 text) (following 2 text) (λ head h. h)) tt))
 
 replay_well : (text : List ℕ) (head : Head) → NamedHead head → AreWell WellFormed (replay_line text head)
 replay_well text head h =
     pick WellFormed (ends_after 2 text) (option_and_then (λ ms. option_map (ReplayLine head ms) (outcomes_in (word 1 text))) (number_in (word 0 text))) None
-    (λ k. chained (λ (z : ℤ). Unit {0}) WellFormed (λ ms. option_map (ReplayLine head ms) (outcomes_in (word 1 text))) (number_in (word 0 text)) (any (number_in (word 0 text)))
+    (λ k. chained (λ (z : ℤ). Unit {0}) WellFormed (λ ms. option_map (ReplayLine head ms) (outcomes_in (word 1 text))) (number_in (word 0 text)) (anything (number_in (word 0 text)))
     (λ z u. mapped_by HasOutcomes WellFormed (ReplayLine head z) (outcomes_in (word 1 text)) (outcomes_well (word 1 text)) (λ l o. (h, o.0, o.1)))) tt
-  where
-    any : (o : Option ℤ) → AreWell (λ z. Unit {0}) o
-    any None = tt
-    any (Some z) = tt
 
 action_well : (text : List ℕ) → AreWell WellFormed (action_line text)
 action_well text =
@@ -138,8 +138,17 @@ action_well text =
     (λ k. chained NamedHead WellFormed (timed_line (following 2 text)) (head_in (word 0 text)) (head_well (word 0 text)) (λ head h. number_well (TimedLine head) (following 2 text) (λ z. h)))
     (pick WellFormed (bytes_eq (word 1 text) (codes "replay")) (option_and_then (replay_line (following 2 text)) (head_in (word 0 text))) _
     (λ k. chained NamedHead WellFormed (replay_line (following 2 text)) (head_in (word 0 text)) (head_well (word 0 text)) (λ head h. replay_well (following 2 text) head h))
-    (pick WellFormed (bytes_eq (word 1 text) (codes "gate")) (option_map (λ head. GateLine head (following 2 text)) (head_in (word 0 text))) None
-    (λ k. mapped_by NamedHead WellFormed (λ head. GateLine head (following 2 text)) (head_in (word 0 text)) (head_well (word 0 text)) (λ head h. h)) tt))
+    (pick WellFormed (bytes_eq (word 1 text) (codes "gate")) (option_map (λ head. GateLine head (following 2 text)) (head_in (word 0 text))) _
+    (λ k. mapped_by NamedHead WellFormed (λ head. GateLine head (following 2 text)) (head_in (word 0 text)) (head_well (word 0 text)) (λ head h. h))
+    (pick WellFormed (bytes_eq (word 1 text) (codes "told")) (told_line ToldLine (word 0 text) (following 2 text)) None
+    (λ k. told_well ToldLine (word 0 text) (following 2 text) (λ head h. h)) tt)))
+
+tell_well : (text : List ℕ) → AreWell WellFormed (tell_line text)
+tell_well text =
+    chained (λ (z : ℤ). Unit {0}) WellFormed _ (number_in (word 0 text)) (anything (number_in (word 0 text))) (λ runner u.
+    chained (λ (z : ℤ). Unit {0}) WellFormed _ (number_in (word 1 text)) (anything (number_in (word 1 text))) (λ uid u.
+    chained (λ (b : Bool). Unit {0}) WellFormed _ (success_in (word 2 text)) (anything (success_in (word 2 text))) (λ succeeds u.
+    pick WellFormed (succeeds || ends_after 3 text) (Some (TellLine runner uid succeeds (following 3 text))) None (λ k. tt) tt)))
 
 event_well : (kind text : List ℕ) → AreWell WellFormed (event_line kind text)
 event_well kind text =
@@ -148,7 +157,8 @@ event_well kind text =
     (pick WellFormed (bytes_eq kind (codes "at")) (number_line AtLine text) _ (λ k. number_well AtLine text (λ z. tt))
     (pick WellFormed (bytes_eq kind (codes "tick")) (number_line TickLine text) _ (λ k. number_well TickLine text (λ z. tt))
     (pick WellFormed (bytes_eq kind (codes "halt")) (number_line HaltLine text) _ (λ k. number_well HaltLine text (λ z. tt))
-    (pick WellFormed (bytes_eq kind (codes "set")) (named_number SetLine text) None (λ k. named_well SetLine text (λ w z h. tt)) tt)))))
+    (pick WellFormed (bytes_eq kind (codes "set")) (named_number SetLine text) _ (λ k. named_well SetLine text (λ w z h. tt))
+    (pick WellFormed (bytes_eq kind (codes "tell")) (tell_line text) None (λ k. tell_well text) tt))))))
 
 by_well : (kind text : List ℕ) → AreWell WellFormed (line_by kind text)
 by_well kind text =

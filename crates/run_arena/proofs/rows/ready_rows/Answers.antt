@@ -2,7 +2,7 @@ use Rattle.std.proofs.Common.{List, ◌∷◌, [], ◌++◌, take, sym, ap, subs
 use Rattle.std.proofs.lemmas.List.{take_all, take_more}
 use Rattle.spec_world.specs.declared.world.Row.{Row}
 use Rattle.run_driver.specs.Places.{CanBeReady}
-use Rattle.run_arena.specs.Rows.{AreReady, IsReadyRow}
+use Rattle.run_arena.specs.Rows.{AreReady, IsReadyRow, TellsEachOnce}
 use Rattle.run_arena.proofs.Readied.{ready_more}
 use Rattle.run_arena.proofs.rows.ready_rows.Goals as goal
 
@@ -16,7 +16,9 @@ loop-row-preserved c =
     let i = c.loop-row.row-index in
     let row = c.row-item.result in
     let is : IsReadyRow facts row c.in_ok-ready.field-0 = record {
-      can = subst (CanBeReady facts) (sym c.row-item.is) (c.requires i row c.loop-row-test.true);
+      can = subst (CanBeReady facts) (sym c.row-item.is) (c.requires.can i row c.loop-row-test.true);
+      once = subst TellsEachOnce (sym c.row-item.is) (c.requires.once i row c.loop-row-test.true);
+      told = c.in_ok-ready.ensures.told;
       kind = c.in_ok-ready.ensures.kind;
       many = c.in_ok-ready.ensures.facts;
       rule = c.in_ok-ready.ensures.rule;

@@ -10,13 +10,13 @@ loop-next-init g c = record { made = part_none g.of _ _ _ c.requires.1.1.0.are (
 pub make_event-requires : goal.make_event-requires
 make_event-requires g c = λ lifetimes live.
     let low : c.loop-next.next-index < length c.args.events.now = omega arith in
-    (live.0, (live.1, (go_on g.of _ _ _ _ c.loop-next.invariant.made c.requires.1.1.0, (come_next g.of.world _ _ _ _ low c.loop-next.invariant.come).0)))
+    (live.0, (live.1, (go_on g.of _ _ _ _ c.loop-next.invariant.made c.requires.1.1.0, (come_next g.of _ _ _ _ low c.next-item.is c.loop-next.invariant.come).0)))
 
 pub returns-in-Faulted-clause-made : goal.returns-in-Faulted-clause-made
 returns-in-Faulted-clause-made g c =
     let low : c.loop-next.next-index < length c.args.events.now = omega arith in
     part_over g.of _ _ _ _ c.make_event.result _ _ _ _ (c.in_ok-make_event.was ∙ ap Ok c.in-Faulted.is) (λ done. cc) c.loop-next.invariant.made
-    (λ rest. event_next g.of.tree g.of.world c.args.events.now c.loop-next.next-index _ rest _ low) c.make_event.ensures.made
+    (λ rest. event_next g.of.tree g.of.world c.args.events.now c.loop-next.next-index _ rest _ low c.next-item.is) c.make_event.ensures.made
 
 pub loop-next-preserved : goal.loop-next-preserved
 loop-next-preserved g c =
@@ -24,9 +24,9 @@ loop-next-preserved g c =
     let done = c.in_ok-make_event.was ∙ ap Ok c.in_default.is in
     let last = c.make_event.ensures.last done in
     record {
-      made = part_on g.of _ _ _ _ c.make_event.result _ _ _ done c.loop-next.invariant.made (λ rest. event_next g.of.tree g.of.world c.args.events.now c.loop-next.next-index _ rest _ low) c.make_event.ensures.made;
-      come = subst (λ (x : _). CanAllCome g.of.world x (drop (c.loop-next.next-index + 1) c.args.events.now)) (sym last) (come_next g.of.world _ _ _ _ low c.loop-next.invariant.come).1;
-      last = ap (λ (x : _). last_moment x (drop (c.loop-next.next-index + 1) c.args.events.now)) last ∙ sym (last_next _ c.args.events.now c.loop-next.next-index _ low) ∙ c.loop-next.invariant.last;
+      made = part_on g.of _ _ _ _ c.make_event.result _ _ _ done c.loop-next.invariant.made (λ rest. event_next g.of.tree g.of.world c.args.events.now c.loop-next.next-index _ rest _ low c.next-item.is) c.make_event.ensures.made;
+      come = subst (λ (x : _). CanAllCome g.of x (drop (c.loop-next.next-index + 1) c.args.events.now)) (sym last) (come_next g.of _ _ _ _ low c.next-item.is c.loop-next.invariant.come).1;
+      last = ap (λ (x : _). last_moment x (drop (c.loop-next.next-index + 1) c.args.events.now)) last ∙ sym (last_next _ c.args.events.now c.loop-next.next-index _ low c.next-item.is) ∙ c.loop-next.invariant.last;
     }
 
 pub returns-clause-made : goal.returns-clause-made
@@ -43,4 +43,4 @@ pub returns-in_err-make_event-clause-made : goal.returns-in_err-make_event-claus
 returns-in_err-make_event-clause-made g c =
     let low : c.loop-next.next-index < length c.args.events.now = omega arith in
     part_over g.of _ _ _ _ c.make_event.result c.from_residual.result _ _ _ (handed_on _ _ _ c.in_err-make_event.was c.from_residual.ensures.1) (λ done. not_done c.from_residual.result c.from_residual.ensures.0 done)
-    c.loop-next.invariant.made (λ rest. event_next g.of.tree g.of.world c.args.events.now c.loop-next.next-index _ rest _ low) c.make_event.ensures.made
+    c.loop-next.invariant.made (λ rest. event_next g.of.tree g.of.world c.args.events.now c.loop-next.next-index _ rest _ low c.next-item.is) c.make_event.ensures.made

@@ -16,6 +16,6 @@ invariant-loop-next g l =
     let left = drop l.next-index l.events in
     record {
       made : MakesPart g.of (Ok Done) old now (λ rest. events_then g.of.tree g.of.world l.events rest (state_at g.of old)) (λ rest. events_then g.of.tree g.of.world left rest (state_at g.of now));
-      come : CanAllCome g.of.world l.underway.runs.last left;
+      come : CanAllCome g.of l.underway.runs.last left;
       last : last_moment l.underway.runs.last left ≡ last_moment l.fn.underway.runs.last l.events;
     }

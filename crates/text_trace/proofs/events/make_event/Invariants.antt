@@ -1,4 +1,4 @@
 use Rattle.text_trace.proofs.events.make_event.Given as goal
 
-abbrev pub ghost-run_event : goal.ghost-run_event
-ghost-run_event g a = g.of
+abbrev pub ghost-run_listed : goal.ghost-run_listed
+ghost-run_listed g a = g.of

@@ -28,7 +28,7 @@ follow-requires g c lifetimes live =
     let low : c.loop.underway.runs.last ≤ c.max-last.result = omega (arith, c.loop.invariant.passed, c.max-last.ensures, high) in
     let runners : c.len-runners.result ≡ g.of.world.runners = omega (arith, c.len-runners.ensures, c.requires.1.1.1.are.fit.many) in
     let is : c.as_slice.result.now ≡ round_of g.of.world.runners c.max-last.result = c.as_slice.ensures.value ∙ c.in-Ok.ensures ∙ ap (λ (k : ℕ). round_of k c.max-last.result) runners in
-    (live.0, (live.1, (go_on g.of _ _ _ _ (c.loop.invariant.rounds.3 []) c.requires.1.1.1, subst (CanAllCome g.of.world c.loop.underway.runs.last) (sym is) (round_can_come g.of.world c.loop.underway.runs.last c.max-last.result low))))
+    (live.0, (live.1, (go_on g.of _ _ _ _ (c.loop.invariant.rounds.3 []) c.requires.1.1.1, subst (CanAllCome g.of c.loop.underway.runs.last) (sym is) (round_can_come g.of c.loop.underway.runs.last c.max-last.result low))))
 
 pub returns-in_err-follow : goal.returns-in_err-follow
 returns-in_err-follow g c =

@@ -17,7 +17,7 @@ run_script-requires g c = λ lifetimes live. (
     live.1,
     (
       begun g.of _ c.args.runs c.in_ok-underway.underway c.requires.1.1.0 c.in_ok-underway.ensures.runs c.in_ok-underway.ensures.room,
-      come_as g.of.world _ c.args.runs c.args.events.now c.in_ok-underway.ensures.runs c.requires.1.1.1,
+      come_as g.of _ c.args.runs c.args.events.now c.in_ok-underway.ensures.runs c.requires.1.1.1,
     ),
   ),
 )

@@ -5,7 +5,7 @@ use Rattle.cli_refusals.specs.Lent.Lent.{seen}
 use Rattle.spec_program.specs.Output.{AreUncalled}
 use Rattle.cli_answers.specs.Courses.Joined.{JoinGives}
 use Rattle.cli_refusals.proofs.Ends.{refused_ends}
-use Rattle.cli_answers.proofs.AboutCourses.Runs.{join_stopped, joined_ends}
+use Rattle.cli_answers.proofs.AboutCourses.Runs.{all_told, join_stopped, joined_ends}
 use Rattle.cli_answers.proofs.courses.join.join_and_run.Goals as goal
 
 pub returns-in_err-slots-clause-ends : goal.returns-in_err-slots-clause-ends
@@ -22,12 +22,15 @@ pub returns-in_err-runs-clause-ends : goal.returns-in_err-runs-clause-ends
 returns-in_err-runs-clause-ends g c =
     let p = err_from_is_err_and c.from_residual-in_err-runs.result c.from_residual-in_err-runs.ensures.1 in
     rw (p.1, p.2) (join_stopped g.of.tree g.of.world c.args.course c.in_err-runs.field-0.0 _ _
-    (record { written = refl; faults = refl; clock = refl; drivers = c.make_runs.ensures.totals })
-    (rw (c.requires.1.1.1.1.0, c.requires.1.1.1.1.1.0) at c.in_err-runs.ensures.fault))
+    (record { written = refl; faults = refl; clock = refl; drivers = c.joined_runs.ensures.totals })
+    c.in_err-runs.ensures.fault)
 
 pub returns-clause-ends : goal.returns-clause-ends
 returns-clause-ends g c =
-    joined_ends g.of c.in_ok-runs.runs (g.D.Drivers.states c.args.outside.now.drivers.now) (g.D.Drivers.states c.make_runs.new.drivers) c.args.course
-    (rw (c.requires.1.1.1.1.0, c.requires.1.1.1.1.1.0) at c.in_ok-runs.ensures.fault) (rw (c.requires.1.1.1.1.0, c.requires.1.1.1.1.1.0) at c.in_ok-runs.ensures.begun.prepared) c.make_runs.ensures.totals
-    (rw (c.requires.1.1.1.1.0, c.requires.1.1.1.1.1.0) at c.in_ok-runs.ensures.begun.calls) c.run.result
+    joined_ends g.of c.in_ok-runs.runs (g.D.Drivers.states c.args.outside.now.drivers.now) (g.D.Drivers.states c.joined_runs.new.drivers) c.args.course
+    c.in_ok-runs.ensures.fault c.in_ok-runs.ensures.begun.prepared c.joined_runs.ensures.totals
+    c.in_ok-runs.ensures.begun.calls c.run.result
     (seen g.K.Sink.written g.K.Sink.faults g.C.Clock.moments g.D.Drivers.states c.args.outside.now) _ c.run.ensures.gave
+
+pub run-requires : goal.run-requires
+run-requires g c = ?

@@ -6,16 +6,16 @@ use Rattle.cli_answers.proofs.courses.join.run.Goals as goal
 pub run_events-requires : goal.run_events-requires
 run_events-requires g c κs within =
     let can = c.requires.1.1.1.1.0 in
-    (search rules, (search rules, (can, all_come g.of _ c.args.runs c.args.events.now can c.requires.1.1.1.1.1.0 c.requires.1.1.1.1.1.1.0)))
+    (search rules, (search rules, (can, all_come g.of _ c.args.runs c.args.events.now can c.requires.1.1.1.1.1.0 c.requires.1.1.1.1.1.1.0 c.requires.1.1.1.1.1.1.1.0)))
 
 pub returns-in-Script-clause-gave : goal.returns-in-Script-clause-gave
 returns-in-Script-clause-gave g c =
-    let named = rw c.in-Script.is at c.requires.1.1.1.1.1.1.1 in
+    let named = rw c.in-Script.is at c.requires.1.1.1.1.1.1.1.1 in
     rw (c.in-Script.is, c.exit_of.ensures) (script_gave g.of c.args.runs _ _ c.requires.1.1.1.1.1.0 _ _ (ap block_text named) c.args.events.now c.requires.1.1.1.1.1.1.0 _ c.run_events.result
     c.run_events.ensures.leaves c.run_events.ensures.watcher.failed)
 
 pub returns-in-Rounds-clause-gave : goal.returns-in-Rounds-clause-gave
 returns-in-Rounds-clause-gave g c =
-    let named = rw c.in-Rounds.is at c.requires.1.1.1.1.1.1.1 in
+    let named = rw c.in-Rounds.is at c.requires.1.1.1.1.1.1.1.1 in
     rw (c.in-Rounds.is, c.exit_of-in-Rounds.ensures) (rounds_gave g.of c.args.runs _ _ c.requires.1.1.1.1.1.0 _ _ (ap block_text named) c.in-Rounds.rounds _ _ c.run_rounds.result
     c.run_rounds.ensures.leaves c.run_rounds.ensures.watcher.failed c.run_rounds.ensures.asked)

@@ -1,6 +1,6 @@
 use Rattle.std.proofs.Common.{◌≡◌, ◌+◌, ◌<◌, ◌≤◌, ◌++◌, ℕ, map, length, drop}
 use Rattle.spec_run.specs.Drivers.{is_held}
-use Rattle.spec_run.specs.Leaf.{released}
+use Rattle.spec_run.specs.Leaf.{let_go}
 use Rattle.spec_run.specs.Run.{releases, quenched_notes}
 use Rattle.run_arena.specs.Nodes.{at_rest, kept_at}
 use Rattle.run_arena.specs.Rosters.{AreServed, instances_of, leaves_in, roster_after}
@@ -15,7 +15,7 @@ invariant-loop-uid g l = record {
   marks : marks_of l.kept ≡ map is_held (instances_of l.nodes (g.D.Drivers.states l.drivers));
   leaves : AreServed (g.D.Drivers.states l.drivers) l.nodes;
   drivers : roster_after l.nodes (calls_left l.nodes l.uid (g.D.Drivers.states l.drivers)) (g.D.Drivers.states l.drivers) ≡ roster_after l.nodes (releases 0 (instances_of l.nodes (g.D.Drivers.states l.fn.drivers))) (g.D.Drivers.states l.fn.drivers);
-  instances : map released (instances_of l.nodes (g.D.Drivers.states l.drivers)) ≡ map released (instances_of l.nodes (g.D.Drivers.states l.fn.drivers));
+  instances : map let_go (instances_of l.nodes (g.D.Drivers.states l.drivers)) ≡ map let_go (instances_of l.nodes (g.D.Drivers.states l.fn.drivers));
   notes : l.notes.list ++ quenched_notes l.runner (calls_left l.nodes l.uid (g.D.Drivers.states l.drivers)) ≡ l.fn.notes.list ++ quenched_notes l.runner (releases 0 (instances_of l.nodes (g.D.Drivers.states l.fn.drivers)));
   reserve : l.notes.reserve + length (releases 0 (instances_of l.nodes (g.D.Drivers.states l.fn.drivers))) ≡ l.fn.notes.reserve + length (calls_left l.nodes l.uid (g.D.Drivers.states l.drivers));
   room : leaves_in (drop l.uid l.nodes) ≤ l.notes.reserve;

@@ -12,4 +12,4 @@ loop-before-preserved g c =
     let on = c.loop-before.invariant in
     goes_on (record { tree = on.tree; world = c.args.world.now })
     (c.finish-made.ensures (record { tree = on.tree; world = c.args.world.now }) on.are (omega arith))
-    c.in_ok-made.was on.room c.tell.ensures.runs c.tell.ensures.block
+    c.in_ok-made.was on.told on.room c.tell.ensures.runs c.tell.ensures.block

@@ -1,5 +1,5 @@
 use Rattle.std.proofs.Common.{◌≡◌, take}
-use Rattle.plan_trial.proofs.copying.copy_names.Given as goal
+use Rattle.base_texts.proofs.name.copy_names.Given as goal
 
 abbrev pub invariant-loop-name : goal.invariant-loop-name
 invariant-loop-name l = l.copied.items ≡ take l.name-index l.names

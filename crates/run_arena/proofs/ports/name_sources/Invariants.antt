@@ -3,7 +3,7 @@ use Rattle.std.specs.List.{All}
 use Rattle.spec_tree.specs.Boards.{slots}
 use Rattle.run_arena.specs.Resolving.{view_in}
 use Rattle.run_arena.specs.Sources.{IsSourceOf, source_at}
-use Rattle.run_arena.proofs.ports.input_sources.Given as goal
+use Rattle.run_arena.proofs.ports.name_sources.Given as goal
 
 -- the sources so far, followed by those still to come, are all
 abbrev pub invariant-loop-name : goal.invariant-loop-name
