@@ -35,7 +35,7 @@ returns-clause-ends g c =
     (seen g.K.Sink.written g.K.Sink.faults g.C.Clock.moments g.D.Drivers.states c.args.outside.now) _ c.run.ensures.gave
 
 pub run-requires : goal.run-requires
-run-requires g c =
+run-requires g c κs within =
     let tree = c.requires.1.1.1.1.0 in
     let world = c.requires.1.1.1.1.1.0 in
     let begun = c.in_ok-runs.ensures.begun in
@@ -44,7 +44,25 @@ run-requires g c =
       is_valid_world = rw world at c.requires.1.1.1.1.1.1.1.0;
       are = begun.runs;
       none = c.joined_runs.ensures.none;
-    } in
-    (search rules, (search rules, (search rules, (search rules,
-    (can, (begun.opening, (c.list.ensures ∙ ap (λ (w : World). w.events) world,
-    (all_told g.of (g.D.Drivers.states c.args.outside.now.drivers.now) c.in_ok-runs.ensures.fault, rw (tree, world) at c.in_ok-names.ensures))))))))
+    } in (
+      search rules,
+      (
+        search rules,
+        (
+          search rules,
+          (
+            search rules,
+            (
+              can,
+              (
+                begun.opening,
+                (
+                  c.list.ensures ∙ ap (λ (w : World). w.events) world,
+                  (all_told g.of (g.D.Drivers.states c.args.outside.now.drivers.now) c.in_ok-runs.ensures.fault, rw (tree, world) at c.in_ok-names.ensures),
+                ),
+              ),
+            ),
+          ),
+        ),
+      ),
+    )
