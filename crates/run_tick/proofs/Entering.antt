@@ -473,7 +473,7 @@ module _ (nodes : List Node) (moment : ℕ) (term : Term) (view : View) (uid : �
     -- a guard has answered
     pub answers_so : (a : Answer) → o ≡ Some a → (memo : Memo) → memo ≡ remembers (kept_at kept uid).status (kept_at kept uid).memo →
         guarded o its m (state_in nodes second moment) ≡ ended its (kept_at kept uid).status (record { answer = a; memo = memo }) (children_in term uid kept) (state_in nodes second moment)
-    answers_so a is memo same =
+    answers_so a is left same =
         ap (λ (x : Option Answer). guarded x its m (state_in nodes second moment)) is
         ∙ guard_answers nodes moment term view uid second a
         ∙ ap (λ (x : Memo). ended its (kept_at kept uid).status (record { answer = a; memo = x }) (children_in term uid kept) (state_in nodes second moment)) (sym same)
