@@ -83,7 +83,6 @@ module _ (is_dead : ℕ → Bool) (uid : ℕ) (lives : Lives is_dead uid) where
   called_live phase.Running a = (lives, tt)
   called_live phase.Told a = (lives, tt)
   called_live phase.Halted a = (lives, tt)
-  called_live phase.Told a = (lives, tt)
 
 module _ (is_dead : ℕ → Bool) (rows : List Row) (F : Family is_dead rows) (node : Term-F F.Child) (view : View) (same : view.rows ≡ rows) (uid : ℕ) where
   abbrev about : About

@@ -4,7 +4,7 @@ use Rattle.spec_tree.specs.declared.term.Term.{out-Term}
 use Rattle.spec_dead.specs.Dead.{outlook}
 use Rattle.spec_dead.specs.Guards.{before_rule}
 use Rattle.spec_dead.specs.Reached.{reaches}
-use Rattle.tree_dead.specs.Steps.{lets_on, selected_of}
+use Rattle.tree_dead.specs.Steps.{lets_on}
 use Rattle.tree_dead.proofs.Marked.{all_answers, comes_here, count_more, count_of_node, heard_here, heard_more, marks_begin, marks_more, node_end, passes_more, rule_here, terms_here}
 use Rattle.tree_dead.proofs.marking.+mark.Goals as goal
 
