@@ -130,11 +130,11 @@ ABSENT = {
     "LoopBool": "there is no loop over a queue: a Repeat with a Script counts",
     "SkipUnlessUpdated": "entries have no time of writing here: use a guard over an entry of your own",
     "WaitValueUpdated": "entries have no time of writing here: use a guard over an entry of your own",
-    "SpeedController": "RateController has one rate, where this one has a rate by the robot's speed",
-    "DistanceController": "a Script before a ReactiveFallback keeps where it was last, and a leaf compares: docs/guide.md has it",
-    "GoalUpdater": "a leaf before its child writes the goal that the child reads: docs/guide.md has it",
-    "SingleTrigger": 'RunOnce with then_skip="false" is the nearest: docs/guide.md has it',
-    "PathLongerOnApproach": "a condition before its child in a Fallback asks this: docs/guide.md has it",
+    "SpeedController": "write a Fallback of a condition that knows the speed and of its child, or a RateController with one rate",
+    "DistanceController": "write a Fallback of a condition that knows how far the robot has moved and of its child",
+    "GoalUpdater": "write a ReactiveSequence of an action that writes the goal at a port and of its child, which reads it there",
+    "SingleTrigger": 'write done := 0 in a Script, and at its child _failureIf="done == 1" and _post="done = 1"',
+    "PathLongerOnApproach": "write a ReactiveFallback of a condition that the path is not longer and of its child",
 }
 
 
