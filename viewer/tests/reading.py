@@ -84,7 +84,7 @@ class Reading:
         families = "return [1, 2, 3, 12].map((uid) => page.run.tree.node(uid).family)"
         same("the signs", self.browser.run(families), ["recovery", "sequence", "decorator", "rotation"])
         self.browser.boxes()
-        holds("no letter for a pipeline", "P" in self.browser.run("return document.querySelector('.node[data-uid=\"2\"]').textContent"))
+        same("the letter of a pipeline", self.browser.run("return document.querySelector('.node[data-uid=\"2\"] .sign text').textContent"), "P")
         self.look("navigation")
 
     def test_values_through_subtrees(self):
