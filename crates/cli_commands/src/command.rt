@@ -25,7 +25,6 @@ ghost use Rattle.text_trace.specs.Traces.{AreKept};
 
 use crate::mocking::mock_tree;
 use crate::reading::{FilesRead, read_files};
-use crate::tree_file::parse_tree;
 use base_outside::{Clock, Shelf, Sink};
 use base_texts::Name;
 use cli_answers::{join_and_run, plan_and_print, print_ground, print_tree};
@@ -38,6 +37,7 @@ use spec_tree::Tree;
 use spec_world::World;
 use std::alloc::Global;
 use text_trace::{load_tree, load_world};
+use tree_reader::parse_tree;
 use world_ground::{read_ground, world_of};
 use world_reader::read_world;
 

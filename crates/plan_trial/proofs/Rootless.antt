@@ -16,7 +16,7 @@ use Rattle.spec_run.specs.declared.note.Note.{Note}
 use Rattle.spec_run.specs.declared.note.Note.TheVariants.{Root}
 use Rattle.spec_run.specs.declared.status.Answer.{Answer}
 use Rattle.spec_run.specs.declared.status.Status.{Status}
-use Rattle.spec_tree.specs.declared.term.Term.{Term, Term-F}
+use Rattle.spec_tree.specs.declared.term.Term.{Term}
 use Rattle.spec_tree.specs.declared.term.Term.TheFolds.{map-Term}
 use Rattle.spec_tree.specs.declared.term.Tree.{Tree}
 use Rattle.spec_world.specs.declared.world.Row.{Row}
@@ -26,7 +26,7 @@ use Rattle.spec_run.specs.Leaves.{leaf_call, reply_notes, row_of}
 use Rattle.spec_run.specs.Run.{RunState, Runner, root_told, root_view, settled, state_of, tick_step, ticked, told, with_runner}
 use Rattle.spec_run.specs.Sites.{Meaning, Site, View}
 use Rattle.spec_run.specs.Visit.{change, meaning}
-use Rattle.run_laws.proofs.Induction.{every_term, node_means}
+use Rattle.run_laws.proofs.Induction.{every_term}
 use Rattle.plan_trial.specs.Roots.{TellRootOnce, is_root}
 use Rattle.plan_trial.proofs.Claims.{Claim, Meets, TermMeets}
 use Rattle.plan_trial.proofs.ClaimedVisits.{NodeMeets, ScriptMeets, change_meets, node_meets}

@@ -2,7 +2,6 @@
 use Rattle.std.specs.Prelude.{◌≤◌, Bool, true, false, List, count_by}
 use Rattle.spec_run.specs.declared.note.Note.{Note}
 use Rattle.spec_run.specs.declared.note.Note.TheVariants as note
-use Rattle.spec_run.specs.declared.status.Answer.TheVariants as answer
 
 -- ---- What decides
 

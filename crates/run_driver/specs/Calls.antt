@@ -1,10 +1,12 @@
 -- A call of a driver: when it may be made, and what it leaves.
-use Rattle.std.specs.Prelude.{◌≡◌, ℕ, ℤ, List, None, slice_set}
+use Rattle.std.specs.Prelude.{◌≡◌, ℕ, ℤ, if◌then◌else◌, List, None, slice_set}
 use Rattle.spec_run.specs.declared.leaf.Instance.{Instance}
 use Rattle.spec_run.specs.declared.leaf.Phase.{Phase}
 use Rattle.spec_run.specs.declared.leaf.Phase.TheVariants as phase
-use Rattle.spec_run.specs.Drivers.{DriverState, after_call, driver_at}
-use Rattle.base_tables.specs.DriverCalls.{IsHeldBy, driver_answer}
+use Rattle.spec_run.specs.declared.leaf.DriverKind.TheVariants as driver
+use Rattle.spec_run.specs.Drivers.{DriverState, after_call, driver_at, same_kind}
+use Rattle.base_tables.specs.DriverCalls.{IsHeldBy, after_told, driver_answer}
+use Rattle.spec_world.specs.declared.world.Telling.{Telling}
 use Rattle.spec_run.specs.Leaf.{Answered}
 use Rattle.run_driver.specs.declared.call.Call.{Call}
 use Rattle.run_driver.specs.declared.call.CallPhase.{CallPhase}
@@ -28,6 +30,10 @@ call_answer d call facts = driver_answer d call.instance (rule call.row.now) (ph
 -- the driver after it
 abbrev pub call_left : DriverState → Call → List ℤ → DriverState
 call_left d call facts = after_call d (phase_asked call.phase) call.instance (call_answer d call facts).instance
+
+-- the driver after it was told something of an instance: that of another kind of row stays as it is
+abbrev pub told_left : DriverState → ℕ → Telling → DriverState
+told_left d instance telling = if same_kind d.kind driver.Told then after_told d instance telling else d
 
 -- ---- A call of the driver at a place of a roster
 

@@ -1,9 +1,8 @@
 ghost use Rattle.std.specs.Prelude.{◌≡◌, ◌<◌, length, IsSome, OnOk, OnErr};
 ghost use Rattle.spec_run.specs.Drivers.{DriverState, HoldsNothing, instance_of, prepared};
-ghost use Rattle.base_tables.specs.DriverCalls.{after_halted, after_told, held_count, kind_of_way};
-ghost use Rattle.spec_run.specs.declared.leaf.DriverKind.TheVariants as driver;
+ghost use Rattle.base_tables.specs.DriverCalls.{after_halted, held_count, kind_of_way};
 ghost use Rattle.base_tables.specs.Outputs.{outputs_after};
-ghost use Rattle.run_driver.specs.Calls.{IsAskedIn, call_answer, call_left};
+ghost use Rattle.run_driver.specs.Calls.{IsAskedIn, call_answer, call_left, told_left};
 ghost use Rattle.run_driver.specs.Rules.{rule};
 
 use crate::call::Call;
@@ -55,10 +54,9 @@ pub trait Driver: Drop {
         requires held { IsSome (instance_of (state self.old) instance).since }
         ensures { state self.new ≡ after_halted (state self.old) instance };
 
-    /// Tells the leaf of this instance how it ended, or whether it holds, in place of what it was told before. Only the
-    /// driver of rows whose leaves are told what they answer is called so.
+    /// Tells the leaf of this instance how it ended, or whether it holds, in place of what it was told before. It leaves
+    /// every driver as it is but that of the rows whose leaves are told what they answer.
     fn tell(&mut self, instance: u32, telling: Telling)
-        requires there { instance < length (state self.old).table }
-        requires kind { (state self.old).kind ≡ driver.Told }
-        ensures { state self.new ≡ after_told (state self.old) instance telling };
+        requires { instance < length (state self.old).table }
+        ensures { state self.new ≡ told_left (state self.old) instance telling };
 }

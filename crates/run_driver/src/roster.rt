@@ -1,9 +1,9 @@
 ghost use Rattle.std.specs.Prelude.{◌≡◌, ◌<◌, ◌≤◌, ◌↔◌, ℕ, List, length, map, take, IsSome, IsTrue, OnOk, OnErr};
 ghost use Rattle.spec_run.specs.Drivers.{DriverState, HoldsNothing, NothingHeld, driver_at, instance_of, place_of_kind, prepared, roster_prepared};
-ghost use Rattle.base_tables.specs.DriverCalls.{IsThere, after_halted, after_told, held_count, instance_at, kind_of_way, roster_halted, roster_told, total_held};
+ghost use Rattle.base_tables.specs.DriverCalls.{IsThere, after_halted, held_count, instance_at, kind_of_way, roster_halted, roster_told, total_held};
 ghost use Rattle.spec_run.specs.declared.leaf.DriverKind.TheVariants as kinds;
 ghost use Rattle.base_tables.specs.Outputs.{outputs_after};
-ghost use Rattle.run_driver.specs.Calls.{IsAskedIn, answer_at, call_answer, call_left, roster_left};
+ghost use Rattle.run_driver.specs.Calls.{IsAskedIn, answer_at, call_answer, call_left, roster_left, told_left};
 ghost use Rattle.run_driver.specs.Rules.{rule};
 
 use crate::call::Call;
@@ -131,9 +131,8 @@ fn halt_one(driver: &mut Box<dyn Driver>, instance: u32)
 
 /// Tells an instance of one driver.
 fn tell_one(driver: &mut Box<dyn Driver>, instance: u32, telling: Telling)
-    requires there { instance < length (state driver.old).table }
-    requires kind { (state driver.old).kind ≡ kinds.Told }
-    ensures { state driver.new ≡ after_told (state driver.old) instance telling }
+    requires { instance < length (state driver.old).table }
+    ensures { state driver.new ≡ told_left (state driver.old) instance telling }
 {
     driver.tell(instance, telling)
 }

@@ -164,7 +164,5 @@ impl Driver for Conditions {
         self.ledger.halted(instance)
     }
 
-    fn tell(&mut self, _instance: u32, _telling: Telling) {
-        unreachable!()
-    }
+    fn tell(&mut self, _instance: u32, _telling: Telling) {}
 }

@@ -95,7 +95,5 @@ impl Driver for Gate {
         self.ledger.halted(instance)
     }
 
-    fn tell(&mut self, _instance: u32, _telling: Telling) {
-        unreachable!()
-    }
+    fn tell(&mut self, _instance: u32, _telling: Telling) {}
 }

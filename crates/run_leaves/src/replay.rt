@@ -109,7 +109,5 @@ impl Driver for Replay {
         self.ledger.halted(instance)
     }
 
-    fn tell(&mut self, _instance: u32, _telling: Telling) {
-        unreachable!()
-    }
+    fn tell(&mut self, _instance: u32, _telling: Telling) {}
 }

@@ -103,7 +103,5 @@ impl Driver for Timed {
         self.ledger.halted(instance)
     }
 
-    fn tell(&mut self, _instance: u32, _telling: Telling) {
-        unreachable!()
-    }
+    fn tell(&mut self, _instance: u32, _telling: Telling) {}
 }

@@ -1,15 +1,17 @@
 //! Runs over drivers that a host has boxed itself and holds in a vector: their making, event by event,
 //! and their finishes.
 
-ghost use Rattle.std.specs.Prelude.{◌≡◌, Ok, IfOk, OnOk, List, map};
+ghost use Rattle.std.specs.Prelude.{◌≡◌, Ok, IfOk, OnOk, List, None, map};
 ghost use Rattle.tree_elements.specs.Valid.{IsValid as IsValidElement};
 ghost use Rattle.spec_tree_file.specs.Models.{manifest_in};
 ghost use Rattle.base_tables.specs.SlotTables.{slot_table};
 ghost use Rattle.spec_run.specs.Drivers.{DriverState};
+ghost use Rattle.spec_run.specs.Joins.{first_untold};
 ghost use Rattle.base_tables.specs.Runnable.{IsRunnable};
 ghost use Rattle.spec_world.specs.Worlds.{IsValidWorld};
 ghost use Rattle.run_loop.specs.Runs.{AreRuns, arenas_of};
 ghost use Rattle.spec_run.specs.Served.{Setup};
+ghost use Rattle.spec_tree.specs.Trees.{nodes_of};
 ghost use Rattle.run_loop.specs.Steps.{HaveRoom, event_side};
 ghost use Rattle.test_leaves.specs.Robots.Going.{CanGoOn};
 
@@ -49,22 +51,27 @@ struct Underway {
     lines: SureSink,
 }
 
-/// Makes a block for runs before their first event, and no lines yet.
+/// Makes a block for runs before their first event, and no lines yet. The fault is what is missing for the events of
+/// their world.
 fn begin(
     alloc: Global,
     tree: &Tree,
     world: &World,
     slots: &Slots,
     runs: Runs,
-) -> Result<Underway, NoMemory>
+) -> Result<Underway, Stop<JoinFault>>
     ghost of: { Setup }
     requires tree { IsRunnable of.tree }
     requires world { IsValidWorld of.world }
     requires runs { (drivers : List DriverState) × AreRuns of.tree of.world drivers runs }
     requires slots { slots.now ≡ slot_table tree.now }
+    ensures told { OnOk result (first_untold of.world.rows (nodes_of of.tree.term) world.now.events ≡ None) }
     ensures runs { IfOk result (λ underway. underway.runs ≡ runs) }
     ensures room { IfOk result (λ underway. HaveRoom (arenas_of runs) underway.block.notes) }
 {
+    if let Err(fault) = tellings_fit(&runs, world.events.list()) {
+        return Err(Stop::Fault(fault));
+    }
     let block = block_for(alloc, leaves(&runs) as u32)?;
     let names = names_of(alloc, tree, world, slots)?;
     let lines = SureSink::new(alloc);
@@ -228,7 +235,27 @@ fn lack_text(alloc: Global, fault: &JoinFault) -> Result<String, NoMemory> {
     })
 }
 
-/// What is told of the runs of a tree in a world, over drivers that hold nothing.
+/// The lines of the runs of a tree in a world, over drivers that hold nothing, and the fault that ended them. The fault
+/// of the join is the error.
+fn lines_of(
+    rt: &impl Abort,
+    alloc: Global,
+    tree: &Tree,
+    world: &World,
+    drivers: &mut Vec<Box<dyn Driver>>,
+) -> Result<String, Stop<JoinFault>>
+    requires tree { IsRunnable tree.now }
+    requires world { IsValidWorld world.now }
+{
+    assert!(rt; hold_nothing(drivers));
+    let slots = slots_of(alloc, tree)?;
+    let runs = runs_of(alloc, tree, &slots, world, drivers)?;
+    let mut underway = begin(alloc, tree, world, &slots, runs)?;
+    let ended = run(rt, alloc, &mut underway, world, drivers);
+    Ok(trace_text(alloc, underway.lines.list(), ended)?)
+}
+
+/// What is told of the runs of a tree in a world.
 fn joined_text(
     rt: &impl Abort,
     alloc: Global,
@@ -236,22 +263,11 @@ fn joined_text(
     world: &World,
     drivers: &mut Vec<Box<dyn Driver>>,
 ) -> Result<String, NoMemory>
-    ghost of: { Setup }
-    requires setup { of ≡ record { tree = tree.now; world = world.now } }
     requires tree { IsRunnable tree.now }
     requires world { IsValidWorld world.now }
 {
-    assert!(rt; hold_nothing(drivers));
-    let slots = slots_of(alloc, tree)?;
-    match runs_of(alloc, tree, &slots, world, drivers) {
-        Ok(runs) => {
-            if let Err(fault) = tellings_fit(&runs, world.events.list()) {
-                return lack_text(alloc, &fault);
-            }
-            let mut underway = begin(alloc, tree, world, &slots, runs)?;
-            let ended = run(rt, alloc, &mut underway, world, drivers);
-            trace_text(alloc, underway.lines.list(), ended)
-        }
+    match lines_of(rt, alloc, tree, world, drivers) {
+        Ok(text) => Ok(text),
         Err(Stop::Fault(fault)) => lack_text(alloc, &fault),
         Err(Stop::NoMemory) => Err(NoMemory),
     }

@@ -1,5 +1,7 @@
-use Rattle.std.proofs.Common.{refl}
+use Rattle.std.proofs.Common.{refl, ap, ◌∙◌, rules}
 use Rattle.std.proofs.lemmas.Result.{err_from_is_err_and}
+use Rattle.spec_world.specs.declared.world.World.{World}
+use Rattle.text_trace.specs.Traces.{CanRun}
 use Rattle.cli_refusals.specs.declared.refusal.Refusal.TheVariants as refusal
 use Rattle.cli_refusals.specs.Lent.Lent.{seen}
 use Rattle.spec_program.specs.Output.{AreUncalled}
@@ -33,4 +35,34 @@ returns-clause-ends g c =
     (seen g.K.Sink.written g.K.Sink.faults g.C.Clock.moments g.D.Drivers.states c.args.outside.now) _ c.run.ensures.gave
 
 pub run-requires : goal.run-requires
-run-requires g c = ?
+run-requires g c κs within =
+    let tree = c.requires.1.1.1.1.0 in
+    let world = c.requires.1.1.1.1.1.0 in
+    let begun = c.in_ok-runs.ensures.begun in
+    let can : CanRun g.of (g.D.Drivers.states c.joined_runs.new.drivers) c.in_ok-runs.runs = record {
+      is_runnable = rw tree at c.requires.1.1.1.1.1.1.0;
+      is_valid_world = rw world at c.requires.1.1.1.1.1.1.1.0;
+      are = begun.runs;
+      none = c.joined_runs.ensures.none;
+    } in (
+      search rules,
+      (
+        search rules,
+        (
+          search rules,
+          (
+            search rules,
+            (
+              can,
+              (
+                begun.opening,
+                (
+                  c.list.ensures ∙ ap (λ (w : World). w.events) world,
+                  (all_told g.of (g.D.Drivers.states c.args.outside.now.drivers.now) c.in_ok-runs.ensures.fault, rw (tree, world) at c.in_ok-names.ensures),
+                ),
+              ),
+            ),
+          ),
+        ),
+      ),
+    )

@@ -1,13 +1,11 @@
-use Rattle.std.proofs.Common.{◌≡◌, Some, None, ap, ◌∙◌}
+use Rattle.std.proofs.Common.{Some, None}
 use Rattle.std.proofs.lemmas.Result.{err_from_is_err_and}
-use Rattle.spec_run.specs.Joins.{first_untold}
-use Rattle.spec_tree.specs.Trees.{nodes_of}
-use Rattle.spec_world.specs.declared.world.World.{World}
 use Rattle.cli_answers.proofs.AboutCourses.Runs.{leaves_lack, untold_lacks}
 use Rattle.cli_answers.proofs.courses.join.joined_runs.Goals as goal
 
 pub tellings_fit-requires : goal.tellings_fit-requires
-tellings_fit-requires g c = ?
+tellings_fit-requires g c =
+    (rw c.requires.1.1.0 at c.requires.1.1.1.1.1.0, (g.D.Drivers.states c.make_runs.new.drivers, rw (c.requires.1.0, c.requires.1.1.0) at c.in_ok-runs.ensures.begun.runs))
 
 pub returns-in_err-runs-clause-fault : goal.returns-in_err-runs-clause-fault
 returns-in_err-runs-clause-fault g c =
@@ -16,10 +14,8 @@ returns-in_err-runs-clause-fault g c =
 
 pub returns-in-Ok-clause-fault : goal.returns-in-Ok-clause-fault
 returns-in-Ok-clause-fault g c =
-    let listed : c.list.result.now ≡ g.of.world.events = c.list.ensures ∙ ap (λ (w : World). w.events) c.requires.1.1.0 in
-    untold_lacks g.of _ None (rw (c.requires.1.0, c.requires.1.1.0) at c.in_ok-runs.ensures.fault) (c.in-Ok.ensures ∙ ap (first_untold g.of.world.rows (nodes_of g.of.tree.term)) listed)
+    untold_lacks g.of _ None (rw (c.requires.1.0, c.requires.1.1.0) at c.in_ok-runs.ensures.fault) (rw (c.list.ensures, c.requires.1.1.0) at c.in-Ok.ensures)
 
 pub returns-in-Err-clause-fault : goal.returns-in-Err-clause-fault
 returns-in-Err-clause-fault g c =
-    let listed : c.list.result.now ≡ g.of.world.events = c.list.ensures ∙ ap (λ (w : World). w.events) c.requires.1.1.0 in
-    untold_lacks g.of _ (Some c.in-Err.fault) (rw (c.requires.1.0, c.requires.1.1.0) at c.in_ok-runs.ensures.fault) (c.in-Err.ensures ∙ ap (first_untold g.of.world.rows (nodes_of g.of.tree.term)) listed)
+    untold_lacks g.of _ (Some c.in-Err.fault) (rw (c.requires.1.0, c.requires.1.1.0) at c.in_ok-runs.ensures.fault) (rw (c.list.ensures, c.requires.1.1.0) at c.in-Err.ensures)
