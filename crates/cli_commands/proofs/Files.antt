@@ -42,7 +42,7 @@ use Rattle.spec_outside.specs.declared.shelf_fault.ShelfFault.TheVariants as she
 use Rattle.spec_program.specs.Reads.{AllRead, AreRead, NamedFile, Reading, ReadsEnd, StoppedAt, if_named, in_order}
 use Rattle.cli_commands.specs.NamedReads.{AreStopped, IsUnreadIfNamed, WasReadIfNamed, refusal_of}
 use Rattle.cli_commands.specs.Unread.{IsUnread}
-use Rattle.cli_commands.specs.TreeRead.{ReadsAs}
+use Rattle.host_session.specs.TreeRead.{ReadsAs}
 use Rattle.spec_program.specs.TreeFiles.{TreeReads}
 use Rattle.spec_program.specs.declared.tree_fault.TreeFault.{TreeFault}
 use Rattle.spec_tree_file.specs.declared.mock_fault.MockFault.{MockFault}

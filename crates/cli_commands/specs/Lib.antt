@@ -2,5 +2,4 @@ pub mod Answering
 pub mod Named
 pub mod NamedReads
 pub mod Standing
-pub mod TreeRead
 pub mod Unread

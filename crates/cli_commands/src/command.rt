@@ -25,12 +25,12 @@ ghost use Rattle.text_trace.specs.Traces.{AreKept};
 
 use crate::mocking::mock_tree;
 use crate::reading::{FilesRead, read_files};
-use crate::tree_file::parse_tree;
 use base_outside::{Clock, Shelf, Sink};
 use base_texts::Name;
 use cli_answers::{join_and_run, plan_and_print, print_ground, print_tree};
 use cli_refusals::{Outside, Refusal, write_refusal};
 use cli_words::{Command, read_command};
+use host_session::parse_tree;
 use run_driver::Drivers;
 use spec_plan::Limits;
 use spec_program::{Course, Exit, Print};

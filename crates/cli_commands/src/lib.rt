@@ -5,6 +5,5 @@
 mod command;
 mod mocking;
 mod reading;
-mod tree_file;
 
 pub use command::run_words;

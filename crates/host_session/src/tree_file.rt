@@ -4,7 +4,7 @@ ghost use Rattle.tree_elements.specs.Valid.{IsValid as IsValidElement};
 ghost use Rattle.spec_tree_file.specs.Models.{manifest_in};
 ghost use Rattle.spec_tree.specs.Limits.{most_file_bytes};
 ghost use Rattle.spec_tree.specs.Trees.{IsValid};
-ghost use Rattle.cli_commands.specs.TreeRead.{ReadsAs};
+ghost use Rattle.host_session.specs.TreeRead.{ReadsAs};
 ghost use Rattle.spec_program.specs.TreeFiles.{element_read};
 ghost use Rattle.base_texts.specs.Stops.{Gives};
 

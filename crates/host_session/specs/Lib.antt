@@ -1,0 +1,5 @@
+pub mod Ending
+pub mod Five
+pub mod Reads
+pub mod Sittings
+pub mod TreeRead
