@@ -1,0 +1,4 @@
+pub mod Ending
+pub mod Five
+pub mod Reads
+pub mod Sittings

@@ -1,0 +1,9 @@
+//! Definitions: what a session is, in which a host drives a tree event by event: what it keeps, which events it takes
+//! and what each leaves.
+#![tactic(auto)]
+
+mod ended;
+mod open_fault;
+
+pub use ended::{Ended, Misuse};
+pub use open_fault::OpenFault;

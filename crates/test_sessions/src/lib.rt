@@ -1,0 +1,5 @@
+//! Tests alone: tables of sessions, as hosts drive them.
+#![tactic(auto)]
+
+#[cfg(test)]
+mod sessions;
