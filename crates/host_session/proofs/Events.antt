@@ -1,5 +1,7 @@
 -- How an event of a session ends, by what the event of its runs has left.
-use Rattle.std.proofs.Common.{◌≡◌, ◌≤◌, ◌⊎◌, ℕ, Bool, true, false, List, [], Option, Result, Ok, Err, None, Some, refl, sym, ap, ◌∙◌, subst, inl, inr, arith}
+use Rattle.std.proofs.Common.{◌≡◌, ◌+◌, ◌≤◌, ◌⊎◌, ℕ, Bool, true, false, List, [], length, Option, Result, Ok, Err, None, Some, Vec, refl, sym, ap, ◌∙◌, subst, inl, inr, arith}
+use Rattle.std.specs.Global.{Global}
+use Rattle.std.specs.List.{All}
 use Rattle.std.proofs.lemmas.Bool.{false≢true}
 use Rattle.std.proofs.lemmas.List.{append-nil}
 use Rattle.base_texts.specs.declared.stop.Stop.{Stop}
@@ -8,13 +10,18 @@ use Rattle.spec_run.specs.declared.block.Block.{Block}
 use Rattle.spec_run.specs.declared.fault.RunFault.{RunFault}
 use Rattle.spec_run.specs.Run.{RunState, Stepped, finish, step}
 use Rattle.spec_run.specs.Served.{Setup}
+use Rattle.spec_tree.specs.declared.term.Tree.{Tree}
+use Rattle.spec_tree.specs.Terms.{node_count}
 use Rattle.spec_world.specs.declared.world.Event.{Event}
 use Rattle.spec_world.specs.Worlds.{IsValidWorld}
 use Rattle.base_tables.specs.Runnable.{IsRunnable}
 use Rattle.base_tables.specs.SlotTables.{slot_table}
+use Rattle.run_arena.specs.declared.nodes.Node.{Node}
 use Rattle.run_loop.specs.Runs.{AreRuns, arenas_of, leaves_of}
 use Rattle.run_loop.specs.Steps.{EventLeft, EventSide, HaveRoom, IsCutOff, IsTold, kept_state}
 use Rattle.spec_session.specs.Events.{IsCutOff as IsCut, Leaves, event_step, finish_step}
+use Rattle.spec_session.specs.declared.label.Label.{Label}
+use Rattle.spec_session.specs.Labels.{labels}
 use Rattle.spec_session.specs.Sessions.{Sitting}
 use Rattle.host_session.specs.Ending.{ended_of}
 use Rattle.host_session.specs.Five.{states_of}
@@ -80,6 +87,16 @@ seen_runs s seen same ready usable =
     let P : Sitting → Type 0 = λ x. AreRuns x.tree x.world (states_of s.five) s.runs in
     subst P same (ready.runs (ap (λ (x : Sitting). x.usable) same ∙ usable))
 
+-- and so for a tree in a world that are given
+module _ (of : Setup) (s : Inside) (seen : Sitting) (same : sitting_of s ≡ seen) (ready : IsReady s) (is : of ≡ setup_of seen) where
+  pub given_world : IsValidWorld of.world
+  given_world =
+      let P : Sitting → Type 0 = λ x. IsValidWorld x.world in
+      subst (λ (x : Setup). IsValidWorld x.world) (sym is) (subst P same ready.world)
+
+  pub given_runs : seen.usable ≡ true → AreRuns of.tree of.world (states_of s.five) s.runs
+  given_runs usable = subst (λ (x : Setup). AreRuns x.tree x.world (states_of s.five) s.runs) (sym is) (seen_runs s seen same ready usable)
+
 -- what has become of its runs by this step of what is seen
 abbrev pub MadeBy : Inside → Sitting → (Sitting → Stepped) → Result (Unit {0}) (Stop RunFault) → EventSide → Type 0
 MadeBy s seen step_of made new = EventLeft (setup_of seen) made (side_of s) new (step_of (sitting seen.tree seen.world s.own.items (side_of s)))
@@ -92,9 +109,9 @@ made_leaves s seen step_of made new same =
 
 -- and what holds of every session holds of it again, whose fields are these
 pub made_ready : (s : Inside) (seen : Sitting) (step_of : Sitting → Stepped) (made : Result (Unit {0}) (Stop RunFault)) (after : Inside) →
-    sitting_of s ≡ seen → IsReady s → MadeBy s seen step_of made (side_of after) → after.tree ≡ s.tree → after.world ≡ s.world → after.slots ≡ s.slots →
+    sitting_of s ≡ seen → IsReady s → MadeBy s seen step_of made (side_of after) → after.tree ≡ s.tree → after.world ≡ s.world → after.slots ≡ s.slots → after.labels ≡ s.labels →
     IsReady after
-made_ready s seen step_of made after same ready left tree world slots =
+made_ready s seen step_of made after same ready left tree world slots labelled =
     let P : Sitting → Type 0 = λ x. MadeBy s x step_of made (side_of after) in
     let here : MadeBy s (sitting_of s) step_of made (side_of after) = subst P (sym same) left in
     let of : Setup = setup_of (sitting_of s) in
@@ -102,6 +119,9 @@ made_ready s seen step_of made after same ready left tree world slots =
       tree = subst IsRunnable (sym tree) ready.tree;
       world = subst IsValidWorld (sym world) ready.world;
       slots = slots ∙ (ready.slots ∙ ap slot_table (sym tree));
+      labels = ap (λ (v : Vec Label Global). v.items) labelled ∙ (ready.labels ∙ ap labels (sym tree));
+      nodes = subst (λ (t : Tree). All (λ (nodes : List Node). length nodes ≡ 1 + node_count t.term) (arenas_of after.runs)) (sym tree)
+          (subst (All (λ (nodes : List Node). length nodes ≡ 1 + node_count s.tree.term)) (sym here.arenas) ready.nodes);
       room = left_room of made (side_of s) (side_of after) (step_of (sitting_of s)) here ready.room;
       runs = λ usable. subst (λ t. AreRuns t after.world (states_of after.five) after.runs) (sym tree)
           (subst (λ w. AreRuns s.tree w (states_of after.five) after.runs) (sym world)

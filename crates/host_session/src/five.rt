@@ -19,6 +19,9 @@ pub struct Five {
 
 impl Five {
     ghost use Rattle.spec_session.specs.Opening.{new_drivers};
+    ghost use Rattle.std.specs.Prelude.{◌<◌, ◌↔◌, IsTrue, OnOk, OnErr, slice_set};
+    ghost use Rattle.spec_run.specs.Drivers.{HoldsNothing, driver_at, prepared};
+    ghost use Rattle.base_tables.specs.DriverCalls.{total_held};
     ghost use Rattle.host_session.specs.Five.{states_of};
 
     /// Drivers that were not called yet. It allocates nothing.
@@ -31,6 +34,35 @@ impl Five {
             replay: Replay::new(alloc),
             gate: Gate::new(alloc),
             told: Told::new(alloc),
+        }
+    }
+
+    /// Whether they count no instance that is held.
+    fn count_none(&self) -> bool
+        ensures { IsTrue result ↔ (total_held (states_of self.now) ≡ 0) }
+    {
+        let conditions = self.conditions.held() as u64;
+        let timed = self.timed.held() as u64;
+        let replay = self.replay.held() as u64;
+        let gate = self.gate.held() as u64;
+        let told = self.told.held() as u64;
+        conditions + timed + replay + gate + told == 0
+    }
+
+    /// Prepares the driver at a place. Where there is want of memory, all is as before.
+    fn prepare_one(&mut self, place: usize, count: u32) -> Result<(), NoMemory>
+        requires there { place < 5 }
+        requires quiet { HoldsNothing (driver_at (states_of self.old) place) }
+        ensures ok { let before = states_of self.old in
+            OnOk result (states_of self.new ≡ slice_set before place (prepared (driver_at before place) count)) }
+        ensures err { OnErr result (states_of self.new ≡ states_of self.old) }
+    {
+        match place {
+            0 => self.conditions.prepare(count),
+            1 => self.timed.prepare(count),
+            2 => self.replay.prepare(count),
+            3 => self.gate.prepare(count),
+            _ => self.told.prepare(count),
         }
     }
 }
@@ -65,28 +97,12 @@ impl Drivers for Five {
     }
 
     fn holds_nothing(&self) -> bool {
-        self.conditions.held() == 0
-            && self.timed.held() == 0
-            && self.replay.held() == 0
-            && self.gate.held() == 0
-            && self.told.held() == 0
+        self.count_none()
     }
 
     fn prepare(&mut self, counts: &[u32]) -> Result<(), NoMemory> {
-        if counts.len() > 0 {
-            self.conditions.prepare(counts[0])?;
-        }
-        if counts.len() > 1 {
-            self.timed.prepare(counts[1])?;
-        }
-        if counts.len() > 2 {
-            self.replay.prepare(counts[2])?;
-        }
-        if counts.len() > 3 {
-            self.gate.prepare(counts[3])?;
-        }
-        if counts.len() > 4 {
-            self.told.prepare(counts[4])?;
+        for (place, count) in counts.iter().enumerate() {
+            self.prepare_one(place, *count)?;
         }
         Ok(())
     }

@@ -2,9 +2,11 @@
 #![tactic(auto)]
 
 mod five;
+mod labels;
 mod misuse;
 mod opening;
 mod reads;
 mod session;
+mod steps;
 
 pub use session::Session;

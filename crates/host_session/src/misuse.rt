@@ -1,9 +1,10 @@
-ghost use Rattle.std.specs.Prelude.{◌≡◌, ◌&&◌, nat_le, nat_lt, None, IfNone, []};
+ghost use Rattle.std.specs.Prelude.{◌≡◌, ◌&&◌, not, nat_le, nat_lt, bytes_eq, []};
+ghost use Rattle.std.specs.List.{list_all, list_any};
 ghost use Rattle.std.specs.Result.{result_err};
 ghost use Rattle.spec_session.specs.declared.ended.Misuse.TheVariants.{NoFact, NoRunner};
-ghost use Rattle.spec_session.specs.Events.{can_be_told, lack_misuse, moment_misuse, telling_misuse, unless};
-ghost use Rattle.spec_world.specs.Worlds.{IsValidTelling, ports_told};
-ghost use Rattle.spec_world_file.specs.WorldFile.{repeats};
+ghost use Rattle.spec_session.specs.Events.{can_be_told, lack_misuse, moment_misuse, out_fits, telling_misuse, unless};
+ghost use Rattle.spec_world.specs.Worlds.{ports_told};
+ghost use Rattle.spec_world_file.specs.WorldFile.{is_long, is_small, repeats};
 
 use base_tables::{LAST_MOMENT, MOST_OUTPUTS, MOST_TEXT_BYTES};
 use spec_run::JoinFault;
@@ -55,8 +56,10 @@ pub fn lack_misuse(fits: Result<(), JoinFault>) -> Option<Misuse>
 }
 
 /// Whether one of these outputs has the name of this one.
-fn is_among(outs: &[ToldOut], out: &ToldOut) -> bool {
-    outs.iter().any(|other| other.port == out.port)
+fn is_among(outs: &[ToldOut], out: &ToldOut) -> bool
+    ensures { result ≡ list_any (λ other. bytes_eq out.now.port other.port) outs.now }
+{
+    outs.iter().any(|other| out.port == other.port)
 }
 
 /// Whether an output stands twice. It allocates nothing.
@@ -71,26 +74,51 @@ fn has_double(outs: &[ToldOut]) -> bool
     false
 }
 
-/// Whether an output can be told: it has a name, and its value is no text that is too long.
-fn fits(out: &ToldOut) -> bool {
-    let short = match &out.value {
-        Value::Int(_) => true,
+/// Whether a value is no text that is too long.
+fn is_short(value: &Value) -> bool
+    ensures { result ≡ (is_small value.now && not (is_long value.now)) }
+{
+    match value {
+        Value::Int(n) => {
+            // By its type it has 64 bits.
+            let _n = *n;
+            true
+        }
         Value::Text(text) => text.list().len() <= MOST_TEXT_BYTES,
-    };
-    is_name(out.port.list()) && short
+    }
+}
+
+/// Whether an output can be told: it has a name, and its value is no text that is too long.
+fn fits(out: &ToldOut) -> bool
+    ensures { result ≡ out_fits out.now }
+{
+    is_name(out.port.list()) && is_short(&out.value)
+}
+
+/// Whether each of these outputs fits.
+fn all_fit(outs: &[ToldOut]) -> bool
+    ensures { result ≡ list_all out_fits outs.now }
+{
+    outs.iter().all(fits)
+}
+
+/// Whether each of these outputs fits, and none stands twice.
+fn fit_and_differ(outs: &[ToldOut]) -> bool
+    ensures { result ≡ (list_all out_fits outs.now && not (repeats [] (ports_told outs.now))) }
+{
+    all_fit(outs) && !has_double(outs)
 }
 
 /// Whether these outputs can be told.
 fn can_be_told(outs: &[ToldOut]) -> bool
     ensures { result ≡ can_be_told outs.now }
 {
-    outs.len() <= MOST_OUTPUTS && outs.iter().all(fits) && !has_double(outs)
+    outs.len() <= MOST_OUTPUTS && fit_and_differ(outs)
 }
 
 /// What is wrong with what is told.
 pub fn telling_misuse(telling: &Telling) -> Option<Misuse>
-    ensures misuse { result ≡ telling_misuse telling.now }
-    ensures valid { IfNone result (IsValidTelling telling.now) }
+    ensures { result ≡ telling_misuse telling.now }
 {
     match telling {
         Telling::Success(outs) => unless(can_be_told(outs.list()), Misuse::BadTelling),

@@ -5,11 +5,12 @@ ghost use Rattle.host_session.specs.Ending.{ended_of};
 
 use crate::five::Five;
 use crate::misuse::{fact_misuse, lack_misuse, moment_misuse, runner_misuse, telling_misuse};
+use crate::steps::{finish_runner, make_event};
 use base_texts::Stop;
 use run_arena::Block;
-use run_loop::{Runs, event_fits, run_event, run_finish};
+use run_loop::{Runs, event_fits};
 use spec_run::RunFault;
-use spec_session::{Ended, Misuse};
+use spec_session::{Ended, Label, Misuse};
 use spec_tree::Tree;
 use spec_world::{Event, Telling, What, World};
 use std::alloc::Global;
@@ -23,6 +24,8 @@ pub struct Session {
     pub(crate) alloc: Global,
     pub(crate) tree: Tree,
     pub(crate) slots: Slots,
+    /// What is told of each node, by its uid less 1.
+    pub(crate) labels: Vec<Label>,
     /// The world without its own events.
     pub(crate) world: World,
     /// The own events that are still to come.
@@ -65,15 +68,17 @@ fn ended(made: Result<(), Stop<RunFault>>) -> Result<(), Ended>
 impl Session {
     ghost use Rattle.host_session.specs.Sittings.{setup_of};
     ghost use Rattle.spec_session.specs.Events.{what_misuse};
-    ghost use Rattle.spec_world.specs.Worlds.{IsValidTelling, IsValidWhat};
+    ghost use Rattle.spec_run.specs.Served.{Setup};
+    ghost use Rattle.host_session.specs.Typed.{IsTyped};
+    ghost use Rattle.spec_world.specs.declared.world.What.TheVariants.{Tell};
 
     /// What is wrong with a telling of a leaf of this runner, in a session that takes events.
     fn tell_misuse(&self, event: &Event, runner: u8, telling: &Telling) -> Option<Misuse>
-        ghost uid: { ℕ }
+        ghost of: { Setup }
+        requires of { of ≡ setup_of self.now }
         requires usable { self.now.usable ≡ true }
-        requires what { event.now.what ≡ What.Tell runner uid telling.now }
-        ensures misuse { result ≡ what_misuse self.now.tree self.now.world (What.Tell runner uid telling.now) }
-        ensures valid { IfNone result (IsValidTelling telling.now) }
+        requires what { (uid : ℕ) × (event.now.what ≡ Tell runner uid telling.now) }
+        ensures { result ≡ what_misuse of.tree of.world event.now.what }
     {
         if let Some(misuse) = runner_misuse(self.world.runners, runner) {
             return Some(misuse);
@@ -88,16 +93,24 @@ impl Session {
     fn what_misuse(&self, event: &Event) -> Option<Misuse>
         requires { self.now.usable ≡ true }
         ensures misuse { result ≡ what_misuse self.now.tree self.now.world event.now.what }
-        ensures valid { IfNone result (IsValidWhat self.now.world.facts self.now.world.runners event.now.what) }
+        ensures typed { IsTyped event.now.what }
     {
         match &event.what {
             What::Tick(runner) | What::Halt(runner) => runner_misuse(self.world.runners, *runner),
-            What::Change { fact, .. } => fact_misuse(self.world.facts.list().len(), *fact),
+            What::Change { fact, value } => {
+                // By its type it has 64 bits.
+                let _value = *value;
+                fact_misuse(self.world.facts.list().len(), *fact)
+            }
             What::Tell {
                 runner,
+                uid,
                 telling,
-                ..
-            } => self.tell_misuse(event, *runner, telling),
+            } => {
+                // By its type it has 32 bits.
+                let _uid = *uid;
+                self.tell_misuse(event, *runner, telling)
+            }
         }
     }
 
@@ -117,11 +130,13 @@ impl Session {
 
     /// Makes an event that is taken.
     fn make(&mut self, event: Event) -> Result<(), Ended>
+        ghost of: { Setup }
+        requires of { of ≡ setup_of self.old }
         requires usable { self.old.usable ≡ true }
-        requires can { CanCome (setup_of self.old) self.old.state.last event }
+        requires can { CanCome of self.old.state.last event }
         ensures { Leaves self.old (event_step self.old event) result self.new }
     {
-        let made = run_event(
+        let made = make_event(
             self.alloc,
             &mut self.runs,
             event,
@@ -173,12 +188,14 @@ impl Session {
 
     /// Makes the finish of a runner that is taken.
     fn make_finish(&mut self, runner: u8) -> Result<(), Ended>
+        ghost of: { Setup }
+        requires of { of ≡ setup_of self.old }
         requires usable { self.old.usable ≡ true }
         requires first { 1 ≤ runner }
-        requires last { runner ≤ self.old.world.runners }
+        requires last { runner ≤ of.world.runners }
         ensures { Leaves self.old (finish_step self.old runner) result self.new }
     {
-        let made = run_finish(
+        let made = finish_runner(
             self.alloc,
             &mut self.runs,
             runner,

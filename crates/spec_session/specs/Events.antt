@@ -19,7 +19,7 @@ use Rattle.spec_world.specs.declared.world.What.{What}
 use Rattle.spec_world.specs.declared.world.What.TheVariants.{Tick, Halt, Change, Tell}
 use Rattle.spec_world.specs.declared.world.World.{World}
 use Rattle.spec_world.specs.Worlds.{is_name, ports_told}
-use Rattle.spec_world_file.specs.WorldFile.{is_long, repeats}
+use Rattle.spec_world_file.specs.WorldFile.{is_long, is_small, repeats}
 use Rattle.spec_session.specs.declared.ended.Ended.{Ended}
 use Rattle.spec_session.specs.declared.ended.Ended.TheVariants.{Misused, Fault, NoMemory}
 use Rattle.spec_session.specs.declared.ended.Misuse.{Misuse}
@@ -47,11 +47,13 @@ lack_misuse None = None
 lack_misuse (Some (lack.NoOutput uid)) = Some NoOutput
 lack_misuse (Some fault) = Some NoLeaf
 
--- whether these can be told: few outputs, each by its name and once, and no text that is too long
+-- whether an output can be told: it has a name, and its value is a number of 64 bits or a text that is not too long
+abbrev pub out_fits : ToldOut → Bool
+out_fits out = is_name out.port && is_small out.value && not (is_long out.value)
+
+-- whether these can be told: few outputs that fit, and none twice
 abbrev pub can_be_told : List ToldOut → Bool
-can_be_told outs =
-    nat_le (length outs) most_outputs && list_all is_name (ports_told outs) && not (repeats [] (ports_told outs))
-    && list_all (λ out. not (is_long out.value)) outs
+can_be_told outs = nat_le (length outs) most_outputs && list_all out_fits outs && not (repeats [] (ports_told outs))
 
 abbrev pub telling_misuse : Telling → Option Misuse
 telling_misuse (telling.Success outs) = unless (can_be_told outs) BadTelling

@@ -2,4 +2,6 @@
 #![tactic(auto)]
 
 #[cfg(test)]
+mod reads;
+#[cfg(test)]
 mod sessions;
