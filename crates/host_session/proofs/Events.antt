@@ -87,6 +87,10 @@ seen_runs s seen same ready usable =
     let P : Sitting → Type 0 = λ x. AreRuns x.tree x.world (states_of s.five) s.runs in
     subst P same (ready.runs (ap (λ (x : Sitting). x.usable) same ∙ usable))
 
+-- what has become of its runs by this step of what is seen
+abbrev pub MadeBy : Inside → Sitting → (Sitting → Stepped) → Result (Unit {0}) (Stop RunFault) → EventSide → Type 0
+MadeBy s seen step_of made new = EventLeft (setup_of seen) made (side_of s) new (step_of (sitting seen.tree seen.world s.own.items (side_of s)))
+
 -- and so for a tree in a world that are given
 module _ (of : Setup) (s : Inside) (seen : Sitting) (same : sitting_of s ≡ seen) (ready : IsReady s) (is : of ≡ setup_of seen) where
   pub given_world : IsValidWorld of.world
@@ -97,9 +101,10 @@ module _ (of : Setup) (s : Inside) (seen : Sitting) (same : sitting_of s ≡ see
   pub given_runs : seen.usable ≡ true → AreRuns of.tree of.world (states_of s.five) s.runs
   given_runs usable = subst (λ (x : Setup). AreRuns x.tree x.world (states_of s.five) s.runs) (sym is) (seen_runs s seen same ready usable)
 
--- what has become of its runs by this step of what is seen
-abbrev pub MadeBy : Inside → Sitting → (Sitting → Stepped) → Result (Unit {0}) (Stop RunFault) → EventSide → Type 0
-MadeBy s seen step_of made new = EventLeft (setup_of seen) made (side_of s) new (step_of (sitting seen.tree seen.world s.own.items (side_of s)))
+  -- what has become of them by this step of the tree in the world
+  pub given_left : (step_of : Setup → RunState → Stepped) (made : Result (Unit {0}) (Stop RunFault)) (new : EventSide) →
+      EventLeft of made (side_of s) new (step_of of (kept_state of (side_of s))) → MadeBy s seen (λ x. step_of (setup_of x) x.state) made new
+  given_left step_of made new left = subst (λ (x : Setup). EventLeft x made (side_of s) new (step_of x (kept_state x (side_of s)))) is left
 
 pub made_leaves : (s : Inside) (seen : Sitting) (step_of : Sitting → Stepped) (made : Result (Unit {0}) (Stop RunFault)) (new : EventSide) →
     sitting_of s ≡ seen → MadeBy s seen step_of made new → Leaves seen (step_of seen) (ended_of made) (sitting s.tree s.world s.own.items new)
