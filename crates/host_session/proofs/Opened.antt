@@ -78,8 +78,8 @@ all_nodes tree w drivers runs are = λ k d within. by k d within (slice_get_case
         length (get_or (arenas_of runs) k d) ≡ 1 + node_count tree.term
     by k d within (inl h) =
         let here : slice_get (arenas_of runs) k ≡ Some h.0.arena.nodes.items =
-        slice_get-map (λ (r : ReadyRunner). r.arena.nodes.items) runs.runners.items k ∙ ap (option_map (λ (r : ReadyRunner). r.arena.nodes.items)) h.1.1.0 in
-        ap length (get_or_from_slice_get (arenas_of runs) k h.0.arena.nodes.items d here) ∙ (are.fit.each k h.0 h.1.1.0).nodes
+        slice_get-map (λ (r : ReadyRunner). r.arena.nodes.items) runs.runners.items k ∙ ap (option_map (λ (r : ReadyRunner). r.arena.nodes.items)) h.2 in
+        ap length (get_or_from_slice_get (arenas_of runs) k h.0.arena.nodes.items d here) ∙ (are.fit.each k h.0 h.2).nodes
     by k d within (inr h) = absurd (omega (arith, within, h.0, length-map runs.runners.items (λ (r : ReadyRunner). r.arena.nodes.items)))
 
 -- ---- The bytes of files

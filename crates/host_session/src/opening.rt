@@ -18,7 +18,6 @@ ghost use Rattle.run_loop.specs.Steps.{HaveRoom};
 use crate::five::Five;
 use crate::labels::labels_of;
 use crate::session::Session;
-
 use base_tables::MOST_FILE_BYTES;
 use base_texts::{Items, Name, Stop};
 use run_arena::{Block, block_for};

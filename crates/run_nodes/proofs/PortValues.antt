@@ -122,7 +122,7 @@ module _ (term : Term-F Meaning) (view : View) (whole uid : ℕ) (s : State) (no
       r ≡ new_memo term.kind (site_of term view uid) memo s
   pace_starts memo r is e =
       let rate_is = ap (λ (ports : List Source). source_rate s.board (slice_index_or ports 0 Absent)) (ports_are RateController is)
-          ∙ rate_means_given (site_of term view uid) s (given_at (site_of term view uid) (codes "hz")) in
+      ∙ rate_means_given (site_of term view uid) s (given_at (site_of term view uid) (codes "hz")) in
       e ∙ ap (λ (rate : Option ℕ). next_pace memo (pace_start s.moment rate)) rate_is ∙ starts_as memo RateController is
 
   -- ---- Switch

@@ -21,7 +21,8 @@ use base_tables::int_fits;
 use itoa::Buffer;
 use run_arena::{Node, Source};
 use spec_run::{
-    Answer, Cause, Counts, Memo, NodeFault, Pace, PortId, Recoveries, Rotation, Since, Status, Turns,
+    Answer, Cause, Counts, Memo, NodeFault, Pace, PortId, Recoveries, Rotation, Since, Status,
+    Turns,
 };
 use spec_script::Value;
 use spec_tree::{Kind, Range};
@@ -217,12 +218,7 @@ pub fn remembers(status: Status, memo: Memo) -> Memo
 /// it remembers, else one of this rate in thousandths of a hertz. The error is the port of the rate, where it has
 /// none, and then the memo stays.
 #[inline(never)]
-fn start_pace(
-    rate: Option<u32>,
-    old: Status,
-    memo: &mut Memo,
-    now: u64,
-) -> Result<(), PortId>
+fn start_pace(rate: Option<u32>, old: Status, memo: &mut Memo, now: u64) -> Result<(), PortId>
     ensures starts { with_memo result memo.new ≡ next_pace (remembers old memo.old) (pace_start now rate) }
     ensures err { OnErr result (memo.new ≡ memo.old) }
 {
@@ -238,8 +234,8 @@ fn start_pace(
     Ok(())
 }
 
-/// Makes a memo the one with which a visit of its node starts, which had this status. The error is the first port that has
-/// no number of its range, and then the memo stays. `now` is in milliseconds.
+/// Makes a memo the one with which a visit of its node starts, which had the status `old`. The error is the first port
+/// that has no number of its range, and then the memo stays. `now` is in milliseconds.
 #[inline(always)]
 fn start_of(
     node: &Node,
@@ -298,9 +294,8 @@ fn or_bad_port<A>(uid: u32, read: Result<A, PortId>) -> Result<A, NodeFault>
     }
 }
 
-/// Makes a memo the one with which a visit of the node with this uid starts, which had the status `old`. The error is the fault
-/// of its first port that has no number of its range, and then the memo stays. `now` is in
-/// milliseconds.
+/// Makes a memo the one with which a visit of the node with this uid starts, which had the status `old`. The error is
+/// the fault of its first port that has no number of its range, and then the memo stays. `now` is in milliseconds.
 #[inline(always)]
 pub fn start_memo(
     node: &Node,
