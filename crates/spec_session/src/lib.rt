@@ -1,5 +1,5 @@
 //! Definitions: what a session is, in which a host drives a tree event by event: what it keeps, which events it takes
-//! and what each leaves, and what is read of it.
+//! and what each leaves, and what is told of its nodes.
 #![tactic(auto)]
 
 mod ended;

@@ -13,7 +13,7 @@ static TREE: &str = "<root BTCPP_format=\"4\" main_tree_to_execute=\"Main\">\
 <BehaviorTree ID=\"Main\"><Sequence><Script code=\"goal := 7\"/><SubTree ID=\"Drive\" name=\"way\" to=\"{goal}\"/></Sequence></BehaviorTree>\
 <BehaviorTree ID=\"Drive\"><Go name=\"legs\" to=\"{to}\" fast=\"yes\" steps=\"{steps}\"/></BehaviorTree></root>";
 
-static WORLD: &str = "bt-world 1\nfact calm 3\naction Go(to fast) told\nout steps\n";
+static WORLD: &str = "bt-world 1\nfact calm 3\naction Go(to,fast) told\nout steps\n";
 
 /// A text, or `?` where it is none.
 fn text(name: &Name) -> &str {
@@ -106,7 +106,7 @@ fn read(rt: &impl Abort, alloc: Global, session: &mut Session) -> Result<(), NoM
     assert_eq!(rt; session.status(1, 4), Some(spec_run::Status::Idle));
     assert_eq!(rt; session.status(1, 5), None);
     assert_eq!(rt; session.status(2, 4), None);
-    assert_eq!(rt; session.facts(), &[3]);
+    assert_eq!(rt; session.facts(), [3].as_slice());
     assert_eq!(rt; session.leaves(), 1);
     assert_eq!(rt; session.last(), 5);
     Ok(())
