@@ -1,29 +1,19 @@
 -- How a session is opened: what is missing, and what holds of it before its first event.
-use Rattle.std.proofs.Common.{◌≡◌, ◌⊎◌, inl, inr, ℕ, ℤ, ◌+◌, ◌<◌, ◌≤◌, Bool, true, false, List, [], length, get_or, Option, Some, None, Result, Ok, Err, refl, sym, ap, subst, ◌∙◌, arith}
-use Rattle.std.specs.Prelude.{MatchBool, option_map, slice_get}
+use Rattle.std.proofs.Common.{◌≡◌, ◌⊎◌, inl, inr, ℕ, ℤ, ◌+◌, ◌<◌, ◌≤◌, List, [], length, get_or, Some, None, ap, ◌∙◌, arith}
+use Rattle.std.specs.Prelude.{option_map, slice_get}
 use Rattle.std.specs.List.{All}
 use Rattle.std.proofs.lemmas.List.{length-map}
 use Rattle.std.proofs.lemmas.List.Elements.{All-nil}
 use Rattle.std.proofs.lemmas.Option.{get_or_from_slice_get, slice_get-map, slice_get_cases}
-use Rattle.base_texts.specs.declared.stop.Stop.{Stop}
-use Rattle.base_texts.specs.declared.stop.Stop.TheVariants as stop
 use Rattle.spec_run.specs.Drivers.{DriverState}
-use Rattle.spec_program.specs.declared.tree_fault.TreeFault.{TreeFault}
-use Rattle.spec_program.specs.Gives.{is_too_long}
-use Rattle.spec_program.specs.TreeFiles.{TreeReads}
 use Rattle.spec_tree.specs.declared.term.Tree.{Tree}
 use Rattle.spec_tree.specs.Terms.{node_count}
-use Rattle.spec_world.specs.declared.world.Event.{Event}
 use Rattle.spec_world.specs.declared.world.World.{World}
 use Rattle.spec_world.specs.Worlds.{IsValidEvent, IsValidWorld}
-use Rattle.spec_session.specs.declared.open_fault.OpenFault.{OpenFault}
-use Rattle.spec_session.specs.Opening.{OpensTo, TreeOpens}
-use Rattle.spec_session.specs.Sessions.{Sitting}
-use Rattle.world_reader.specs.Readings.{Gives}
 use Rattle.run_arena.specs.declared.nodes.Node.{Node}
 use Rattle.run_loop.specs.declared.runs.ReadyRunner.{ReadyRunner}
 use Rattle.run_loop.specs.declared.runs.Runs.{Runs}
-use Rattle.run_loop.specs.Runs.{AreRuns, RunnerFits, RunnersFit, arenas_of}
+use Rattle.run_loop.specs.Runs.{AreRuns, RunnerFits, arenas_of}
 
 -- ---- The world without its own events
 
@@ -81,16 +71,3 @@ all_nodes tree w drivers runs are = λ k d within. by k d within (slice_get_case
         slice_get-map (λ (r : ReadyRunner). r.arena.nodes.items) runs.runners.items k ∙ ap (option_map (λ (r : ReadyRunner). r.arena.nodes.items)) h.2 in
         ap length (get_or_from_slice_get (arenas_of runs) k h.0.arena.nodes.items d here) ∙ (are.fit.each k h.0 h.2).nodes
     by k d within (inr h) = absurd (omega (arith, within, h.0, length-map runs.runners.items (λ (r : ReadyRunner). r.arena.nodes.items)))
-
--- ---- The bytes of files
-
-by_false : (b : Bool) (P Q : Type 0) → b ≡ false → Q → MatchBool b P Q
-by_false true P Q e q = absurd (cc)
-by_false false P Q e q = q
-
--- what a tree file reads as, and what that opens, is what the bytes open
-pub opens : (result : Result Sitting (Stop OpenFault)) (main : Option (List ℕ)) (tree world : List ℕ) (read : Result Tree TreeFault) →
-    is_too_long tree ≡ false → is_too_long world ≡ false → TreeReads main tree read → Gives result (TreeOpens read world) → OpensTo result main tree world
-opens (Ok sitting) main tree world read short brief reads h = by_false (is_too_long tree) _ _ short (by_false (is_too_long world) _ _ brief (read, reads, h))
-opens (Err (stop.Fault f)) main tree world read short brief reads h = by_false (is_too_long tree) _ _ short (by_false (is_too_long world) _ _ brief (read, reads, h))
-opens (Err stop.NoMemory) main tree world read short brief reads h = tt
