@@ -10,8 +10,7 @@ use Rattle.host_session.proofs.session.Session.make_finish.Goals as goal
 
 pub finish_runner-made-requires : goal.finish_runner-made-requires
 finish_runner-made-requires g c =
-    let now = c.args.self.now in
-    (
+    let now = c.args.self.now in (
       given_runs g.of c.self.inside now c.self.view_is c.self.invariant c.requires.0 c.requires.1.0,
       (c.requires.1.1.0, (c.requires.1.1.1, c.self.invariant.room)),
     )
