@@ -2,6 +2,10 @@
 #![tactic(auto)]
 
 #[cfg(test)]
+mod host;
+#[cfg(test)]
+mod memory;
+#[cfg(test)]
 mod reads;
 #[cfg(test)]
 mod sessions;
