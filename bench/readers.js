@@ -1,24 +1,15 @@
 "use strict";
 
 /**
- * Reads printed trees and world scripts by the readers of the page. Standard input is a list of `{tree, world}`, of which
- * either may be null; standard output is a list of what was read of each: the nodes of the tree as `[uid, id, name]`, and
- * the world's facts, rows, goals and number of runners, or what a reader threw.
+ * Reads printed trees and world scripts by the readers of the page. Standard input has the `scripts` of the two readers, and
+ * the `cases`, a list of `{tree, world}`, of which either may be null; standard output is a list of what was read of each: the
+ * nodes of the tree as `[uid, id, name]`, and the world's facts, rows, goals and number of runners, or what a reader threw.
  */
 const fs = require("fs");
-const path = require("path");
 
-const FOLDER = path.join(__dirname, "..", "viewer");
-
-/** What a script of the page gives under its name, or what a module of it exports. */
-function load(file, name) {
-  const text = fs.readFileSync(path.join(FOLDER, file), "utf8");
-  const exported = /^export (\{[^}]*\});$/m;
-  return new Function(exported.test(text) ? text.replace(exported, "return $1;") : `${text}\nreturn ${name};`)();
-}
-
-const TreeFile = load("treefile.js", "TreeFile");
-const WorldFile = load("worldfile.js", "WorldFile");
+const { scripts, cases } = JSON.parse(fs.readFileSync(0, "utf8"));
+const TreeFile = new Function(scripts.treefile)();
+const WorldFile = new Function(scripts.worldfile)();
 
 function treeOf(text) {
   return TreeFile.read(text).nodes.slice(1).map(({ uid, id, name }) => [uid, id, name]);
@@ -38,5 +29,4 @@ function told(read, text) {
   }
 }
 
-const cases = JSON.parse(fs.readFileSync(0, "utf8"));
 process.stdout.write(JSON.stringify(cases.map(({ tree, world }) => ({ tree: told(treeOf, tree), world: told(worldOf, world) }))));

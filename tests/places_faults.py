@@ -91,6 +91,17 @@ TICKS = [
           ("RetryUntilSuccessful (node 1) faulted at 0 ms: its port num_attempts", "no number that it takes",
            "num_attempts takes 1 to 1000, or -1"),
           nodes('<RetryUntilSuccessful num_attempts="{n}"><A/></RetryUntilSuccessful>'), lines("action A timed 0\ntick 1")),
+    fault("a rate from a key", "tick 1 at 0 / node 1 IDLE RUNNING / node 2 IDLE SUCCESS / node 3 IDLE RUNNING / fault 1 3 BadPort hz / board 1 0 h 0", "T:3:50:",
+          ("RateController (node 3) faulted at 0 ms: its port hz", "hz takes 0.001 to 1000 hertz", "from a key 1 to 1000 and no point"),
+          nodes('<Sequence><Script code="h := 0"/><RateController hz="{h}"><A/></RateController></Sequence>'), lines("action A timed 0\ntick 1")),
+    fault("a guard of a node that has succeeded before",
+          "tick 1 at 0 / node 1 IDLE RUNNING / node 2 IDLE RUNNING / node 3 IDLE SUCCESS / node 3 SUCCESS IDLE / node 2 RUNNING SUCCESS / "
+          "node 4 IDLE SUCCESS / call 5 start SUCCESS / node 5 IDLE SUCCESS / call 6 start RUNNING / node 6 IDLE RUNNING / root 1 RUNNING / "
+          "board 1 0 n 1 / tick 1 at 5 / node 2 SUCCESS IDLE / fault 1 5 Overflow / quench 1 6 / board 1 0 n 2", "T:3:117:",
+          ("the script _skipIf of A (node 5) faulted at 5 ms", "halted: B (node 6)"),
+          nodes('<PipelineSequence><RunOnce><Script code="n := 0"/></RunOnce><Script code="n += 1"/> '
+                '<A _skipIf="9223372036854775806 + n == 0"/><B/></PipelineSequence>'),
+          lines("action A timed 0\naction B timed 9\ntick 1\nat 5\ntick 1")),
     fault("a count of a Parallel", "tick 1 at 0 / node 1 IDLE RUNNING / fault 1 1 BadPort success_count", "T:3:11:",
           ("Parallel (node 1) faulted at 0 ms: its port success_count", "1 to the number of children"),
           nodes('<Parallel success_count="3"><A/></Parallel>'), lines("action A timed 0\ntick 1")),

@@ -2,14 +2,26 @@
 import json
 import pathlib
 import re
+import sys
 
 FOLDER = pathlib.Path(__file__).resolve().parent
+sys.path.insert(0, str(FOLDER.parent / "tools"))
+from places.built_ins import NODES  # noqa: E402
+
 IMPORT = re.compile(r'^import \* as (\w+) from "\./([\w-]+)\.js";\n', re.M)
 EXPORT = re.compile(r"^export \{([^}]*)\};\n", re.M)
 
 
+def kinds():
+    """The module that has the sign of each built-in node, and its letter, from the table of the tools."""
+    signs, letters = ({name: said for name, said in told.items() if said} for told in (
+        {name: node.sign for name, node in NODES.items()}, {name: node.letter for name, node in NODES.items()}))
+    return (f"const SIGNS = new Map(Object.entries({json.dumps(signs)}));\n"
+            f"const LETTERS = new Map(Object.entries({json.dumps(letters)}));\nexport {{ SIGNS, LETTERS }};\n")
+
+
 def text_of(name):
-    return (FOLDER / name).read_text(encoding="utf-8")
+    return kinds() if name == "kinds.js" else (FOLDER / name).read_text(encoding="utf-8")
 
 
 def inner_name(module):

@@ -72,10 +72,9 @@ class NodePanel {
   }
 
   showCounts(count) {
-    const { run, runner, uid } = this;
-    const lines = run.changes.of(run.place(runner, uid));
-    const now = countsOf(run, lines, run.firstLine(count));
-    const all = countsOf(run, lines, run.lines);
+    const { run } = this;
+    const now = countsOf(run, this.lines, run.firstLine(count));
+    const all = countsOf(run, this.lines, run.lines);
     const row = (head, counts) => html("tr", {}, html("th", {}, head), ...COUNTS.map((name) => html("td", {}, Words.number(counts[name]))));
     byId("node-counts").replaceChildren(
       html("tr", {}, html("td"), ...COUNTS.map((name) => html("th", {}, name))), row("so far", now), row("in all", all));
@@ -121,15 +120,24 @@ class NodePanel {
 
 const COUNTS = ["visits", "successes", "failures", "halts"];
 
-/** How often, in its lines before this one, the node left IDLE, succeeded, failed, and was halted. */
+/**
+ * How often, in its lines before this one, a visit of the node began, and it succeeded, failed and was halted. A leaf that is
+ * started again may answer as before, which changes no status, so its calls count, and not the changes that they make.
+ */
 function countsOf(run, lines, end) {
   const counts = { visits: 0, successes: 0, failures: 0, halts: 0 };
+  let told = null;
   for (const line of lines) {
     if (line >= end) break;
-    if (run.old[line] === IDLE) counts.visits++;
-    if (run.answer[line] === SUCCESS) counts.successes++;
-    if (run.answer[line] === FAILURE) counts.failures++;
-    if (run.old[line] === RUNNING && run.answer[line] === IDLE) counts.halts++;
+    const isCall = run.kind[line] === Runs.START || run.kind[line] === Runs.RAN;
+    const answer = run.answer[line];
+    if (isCall || answer !== told) {
+      if (isCall ? run.kind[line] === Runs.START : run.old[line] !== RUNNING && answer !== IDLE) counts.visits++;
+      if (answer === SUCCESS) counts.successes++;
+      if (answer === FAILURE) counts.failures++;
+    }
+    if (run.kind[line] === Runs.NODE && run.old[line] === RUNNING && answer === IDLE) counts.halts++;
+    told = isCall ? answer : null;
   }
   return counts;
 }

@@ -1,5 +1,6 @@
 /** The signs of kinds, in a square of 16, and the badges of statuses, in a square of 20. */
 import * as Dom from "./dom.js";
+import * as Kinds from "./kinds.js";
 
 const { html, svg } = Dom;
 
@@ -8,6 +9,8 @@ const KINDS = {
   fallback: "M5 5.6a3 3 0 1 1 4.7 2.4C8.6 8.8 8 9.3 8 10.6M8 13v.3",
   parallel: "M2 5h11M10 2l3 3-3 3M2 11h11M10 8l3 3-3 3",
   branch: "M1.5 8H5l3.5-4H14M5 8l3.5 4H14M11.5 1.7L14 4l-2.5 2.3M11.5 9.7L14 12l-2.5 2.3",
+  recovery: "M6 2h4v4h4v4h-4v4H6v-4H2V6h4z",
+  rotation: "M13.4 6.4A5.7 5.7 0 0 0 3.2 5M3 2v3.2h3.2M2.6 9.6A5.7 5.7 0 0 0 12.8 11M13 14v-3.2H9.8",
   decorator:
     "M12.2 8a4.2 4.2 0 1 1-8.4 0 4.2 4.2 0 0 1 8.4 0M9.5 8a1.5 1.5 0 1 1-3 0 1.5 1.5 0 0 1 3 0" +
     "M8 1.4v2.4M8 12.2v2.4M1.4 8h2.4M12.2 8h2.4M3.3 3.3L5 5M11 11l1.7 1.7M3.3 12.7L5 11M11 5l1.7-1.7",
@@ -40,10 +43,9 @@ function kindOf(node, world) {
   return row && row.sort in KINDS ? row.sort : "leaf";
 }
 
-/** The letter that tells kinds with one sign apart: R for reactive ones, M for memory. */
+/** The letter that tells kinds with one sign apart: R for reactive ones, M for memory, P for a pipeline. */
 function letterOf(node) {
-  if (node.id.startsWith("Reactive")) return "R";
-  return node.id === "SequenceWithMemory" ? "M" : "";
+  return node.family === "leaf" ? "" : Kinds.LETTERS.get(node.id) ?? "";
 }
 
 /** A badge for use within a drawing, with its left upper corner at this place. */

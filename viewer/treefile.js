@@ -2,6 +2,7 @@
  * Reads a tree as `bt check` prints it, and opens it: the nodes are numbered from 1 in pre-order, and each
  * SubTree node has the root of its tree as its one child.
  */
+import * as Kinds from "./kinds.js";
 
 /**
  * @typedef {{name: string, value: string}} Attribute
@@ -23,20 +24,6 @@
  * @property {number} [end]
  */
 const GUARDS = ["_failureIf", "_successIf", "_skipIf", "_while", "_onSuccess", "_onFailure", "_post", "_onHalted"];
-const FAMILIES = {
-  sequence: ["Sequence", "SequenceWithMemory", "ReactiveSequence"],
-  fallback: ["Fallback", "ReactiveFallback"],
-  parallel: ["Parallel"],
-  branch: ["Switch2", "Switch3", "Switch4", "Switch5", "Switch6", "IfThenElse", "WhileDoElse"],
-  decorator: [
-    "Inverter", "ForceSuccess", "ForceFailure", "KeepRunningUntilFailure", "RetryUntilSuccessful", "Repeat",
-    "Timeout", "Delay", "RunOnce",
-  ],
-  subtree: ["SubTree"],
-  constant: ["AlwaysSuccess", "AlwaysFailure"],
-  script: ["Script", "ScriptCondition"],
-};
-const FAMILY_OF = new Map(Object.entries(FAMILIES).flatMap(([family, ids]) => ids.map((id) => [id, family])));
 const EXPLICIT = ["Action", "Condition", "Control", "Decorator"];
 const REFERENCES = { lt: "<", gt: ">", amp: "&", quot: '"', apos: "'" };
 const MOST_NODES = 4096;
@@ -95,7 +82,7 @@ function nodeOf(element) {
   const id = idOf(element);
   const node = { id, name: element.attributes.get("name") ?? id, ports: [], guards: [], code: null, autoremap: false };
   Object.assign(node, { begin: element.begin, end: element.end });
-  node.family = element.name === "SubTree" ? "subtree" : FAMILY_OF.get(id) ?? "leaf";
+  node.family = element.name === "SubTree" ? "subtree" : Kinds.SIGNS.get(id) ?? "leaf";
   for (const [name, value] of element.attributes) {
     if (GUARDS.includes(name)) node.guards.push({ name, value });
     else if (name === "code" && node.family === "script") node.code = value;

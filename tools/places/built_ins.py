@@ -1,4 +1,5 @@
-"""The nodes that the program knows by itself, and the names that it keeps."""
+"""The nodes that the program knows by itself, and the names that it keeps. `NODES` is the one table of them beside the
+program's own: the tools, the page (viewer/build.py) and the random files of bench/fuzz go by it."""
 
 from dataclasses import dataclass
 from typing import Dict, Optional, Tuple
@@ -17,12 +18,15 @@ class Port:
 
 @dataclass(frozen=True)
 class Node:
-    """A built-in node: its class, how many children it takes, and its ports."""
+    """A built-in node: its class, how many children it takes, its ports, and its sign on the page: a name of viewer/signs.js,
+    and the letter that tells it from others with this sign."""
 
     sort: str
     least: int
     most: Optional[int]
     ports: Tuple[Port, ...] = ()
+    sign: str = "decorator"
+    letter: str = ""
 
     def takes(self, count: int) -> bool:
         """Whether it may have so many children."""
@@ -37,15 +41,16 @@ class Node:
         return f"{self.least} or {self.most} children"
 
 
-RANGES = {"any value": "a value", "number": "a number", "turns": "1 to 1000, or -1 for no limit",
-          "duration": "0 to 4294967295 milliseconds", "truth": "true, false, 1 or 0"}
+RANGES = {"any value": "a value", "number": "a number", "turns": "1 to 1000, or -1 for no limit", "recoveries": "0 to 1000",
+          "duration": "0 to 4294967295 milliseconds", "truth": "true, false, 1 or 0",
+          "rate": "0.001 to 1000 hertz with at most three digits after the point, and from a key 1 to 1000 and no point"}
 
-SAMPLES = {"any value": "..", "number": "1", "turns": "3", "duration": "500", "truth": "true"}
+SAMPLES = {"any value": "..", "number": "1", "turns": "3", "recoveries": "1", "duration": "500", "truth": "true", "rate": "10"}
 
 
-def control(least: int, most: Optional[int] = None, *ports: Port) -> Node:
+def control(sign: str, letter: str = "", least: int = 1, most: Optional[int] = None, ports: Tuple[Port, ...] = ()) -> Node:
     """A node of the class Control."""
-    return Node("Control", least, most, ports)
+    return Node("Control", least, most, ports, sign, letter)
 
 
 def decorator(*ports: Port) -> Node:
@@ -55,30 +60,47 @@ def decorator(*ports: Port) -> Node:
 
 def switch(cases: int) -> Node:
     """A Switch of so many cases."""
-    return control(cases + 1, cases + 1, Port("variable", "any value"),
-                   *(Port(f"case_{number}", "any value") for number in range(1, cases + 1)))
+    names = ("variable", *(f"case_{number}" for number in range(1, cases + 1)))
+    return control("branch", "", cases + 1, cases + 1, tuple(Port(name, "any value") for name in names))
 
 
-LEAF = Node("leaf", 0, 0)
+def lone(sign: str) -> Node:
+    """A node without children."""
+    return Node("leaf", 0, 0, (), sign)
+
+
+LEAF = lone("leaf")
 
 NODES: Dict[str, Node] = {
-    **{name: control(1) for name in ("Sequence", "SequenceWithMemory", "ReactiveSequence", "Fallback", "ReactiveFallback")},
-    "Parallel": control(1, None, Port("success_count", "number", "-1"), Port("failure_count", "number", "1")),
+    "Sequence": control("sequence"),
+    "SequenceWithMemory": control("sequence", "M"),
+    "ReactiveSequence": control("sequence", "R"),
+    "Fallback": control("fallback"),
+    "ReactiveFallback": control("fallback", "R"),
+    "Parallel": control("parallel", ports=(Port("success_count", "number", "-1"), Port("failure_count", "number", "1"))),
     **{f"Switch{cases}": switch(cases) for cases in range(2, 7)},
-    "IfThenElse": control(2, 3),
-    "WhileDoElse": control(2, 3),
+    "IfThenElse": control("branch", least=2, most=3),
+    "WhileDoElse": control("branch", least=2, most=3),
+    "RecoveryNode": control("recovery", least=2, most=2, ports=(Port("number_of_retries", "recoveries", "1"),)),
+    "PipelineSequence": control("sequence", "P"),
+    "RoundRobin": control("rotation"),
     **{name: decorator() for name in ("Inverter", "ForceSuccess", "ForceFailure", "KeepRunningUntilFailure")},
     "RetryUntilSuccessful": decorator(Port("num_attempts", "turns")),
     "Repeat": decorator(Port("num_cycles", "turns")),
     "Timeout": decorator(Port("msec", "duration")),
     "Delay": decorator(Port("delay_msec", "duration")),
     "RunOnce": decorator(Port("then_skip", "truth", "true")),
-    **{name: LEAF for name in ("AlwaysSuccess", "AlwaysFailure", "Script", "ScriptCondition")},
+    "RateController": decorator(Port("hz", "rate", "10")),
+    "AlwaysSuccess": lone("constant"),
+    "AlwaysFailure": lone("constant"),
+    "Script": lone("script"),
+    "ScriptCondition": lone("script"),
 }
 
 WITH_CODE = ("Script", "ScriptCondition")
 
-LOOPS = {"RetryUntilSuccessful": "num_attempts", "Repeat": "num_cycles"}
+# the ports that say how often a node visits its children in one visit
+LOOPS = {name: port.name for name, node in NODES.items() for port in node.ports if port.range in ("turns", "recoveries")}
 
 EXPLICIT = ("Action", "Condition", "Control", "Decorator")
 
@@ -92,10 +114,10 @@ AFTER = {"SUCCESS": ("_onSuccess", "_post"), "FAILURE": ("_onFailure", "_post")}
 
 # nodes of BehaviorTree.CPP that have children and are not known here, with what may stand in their place
 ABSENT = {
-    "AsyncSequence": "Sequence goes on to the next child in the same tick, where AsyncSequence answers RUNNING first, "
-                     "so that it can be halted between two children",
-    "AsyncFallback": "Fallback goes on to the next child in the same tick, where AsyncFallback answers RUNNING first, "
-                     "so that it can be halted between two children",
+    "AsyncSequence": "Sequence is the nearest: it goes on to the next child in the same tick, where AsyncSequence answers "
+                     "RUNNING after a child that succeeds in its first visit, and goes on in the next tick",
+    "AsyncFallback": "Fallback is the nearest: it goes on to the next child in the same tick, where AsyncFallback answers "
+                     "RUNNING after a child that fails in its first visit, and goes on in the next tick",
     "SequenceStar": "in version 4 it is SequenceWithMemory",
     "SubTreePlus": 'in version 4 it is SubTree, with _autoremap="true" for __autoremap',
     "ParallelAll": "Parallel with success_count and failure_count stops early, and is the nearest",
@@ -108,6 +130,11 @@ ABSENT = {
     "LoopBool": "there is no loop over a queue: a Repeat with a Script counts",
     "SkipUnlessUpdated": "entries have no time of writing here: use a guard over an entry of your own",
     "WaitValueUpdated": "entries have no time of writing here: use a guard over an entry of your own",
+    "SpeedController": "write a Fallback of a condition that knows the speed and of its child, or a RateController with one rate",
+    "DistanceController": "write a Fallback of a condition that knows how far the robot has moved and of its child",
+    "GoalUpdater": "write a ReactiveSequence of an action that writes the goal at a port and of its child, which reads it there",
+    "SingleTrigger": 'write done := 0 in a Script, and at its child _failureIf="done == 1" and _post="done = 1"',
+    "PathLongerOnApproach": "write a ReactiveFallback of a condition that the path is not longer and of its child",
 }
 
 

@@ -6,7 +6,6 @@ from dataclasses import dataclass, field
 from typing import Dict, List, Optional
 
 from . import grounds
-from .built_ins import LOOPS
 from .faults import cause_said, explained, quenched
 from .marks import Finding
 from .mocks import mocked, rule_warnings
@@ -161,7 +160,7 @@ def of_made(command: Command, rules: Rules, words: str) -> List[str]:
     file = opened(command.tree, command.main)
     try:
         if file is not None:
-            check_sizes(mocked(file, rules).file, LOOPS)
+            check_sizes(mocked(file, rules).file)
     except Finding as finding:
         return told(file.source, finding) if finding.words == words else []
     return []

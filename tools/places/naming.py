@@ -57,7 +57,7 @@ class Naming:
         """Raises where no run of this tree has the line: a leaf is called before it is RUNNING, and no other node is called."""
         self.has_calls |= is_call
         is_lone = node.kind in NODES and not node.children
-        becomes_running = line.endswith(" IDLE RUNNING") and not is_call
+        becomes_running = line.endswith(" RUNNING") and line.startswith("node ")
         if is_call and node.kind != "Leaf" or becomes_running and is_lone:
             raise OtherTree(f"the trace is of another tree: it has `{line}`, and {node.said()} of this tree is no leaf that is called")
         if becomes_running and node.kind == "Leaf" and self.has_calls and self.before != f"call {node.uid} start RUNNING":

@@ -3,7 +3,7 @@
 import sys
 from typing import List, Optional, Tuple
 
-from .built_ins import ABSENT, EXPLICIT, KEPT, LEAF, LOOPS, NODES
+from .built_ins import ABSENT, EXPLICIT, KEPT, LEAF, NODES
 from .contents import check_content
 from .marks import Element, Finding
 from .near import listed, meant
@@ -135,7 +135,8 @@ class Opening:
             return self.fault(f"UnknownNode {node.uid}", node, f"{name} is no node and may not stand here", [])
         fitting = [other for other, known in NODES.items() if known.takes(len(element.children))]
         near = meant(name, fitting + (["SubTree"] if not element.children else []))
-        helps = [ABSENT[name]] if name in ABSENT else near or ["nodes with children are " + listed(fitting, 30)]
+        with_children = [other for other, known in NODES.items() if known.most != 0]
+        helps = [ABSENT[name]] if name in ABSENT else near or ["nodes with children are " + listed(with_children, 30)]
         return self.fault(f"UnknownNode {node.uid}", node,
                           f"there is no node {name} that has children; a leaf has none", helps)
 
@@ -161,7 +162,7 @@ def open_file(file: TreeFile) -> None:
     """Opens the main tree of a file. Raises the first fault of its nodes."""
     sys.setrecursionlimit(20_000)
     Opening(file).open_main()
-    check_sizes(file, LOOPS)
+    check_sizes(file)
 
 
 def opened(name: Optional[str], main: Optional[str]) -> Optional[TreeFile]:

@@ -57,6 +57,7 @@ def lacking(file: TreeFile, world: World, words: str) -> List[str]:
     report = Report("error", f"the leaf {first.said()} has no row in {world.source.name}",
                     Place(file.source, *first.element.span()), file.where(first))
     report.helps += near_rows(file, world, first.id)
+    report.helps += [help_ for node in others if node.id in ABSENT for help_ in near_rows(file, world, node.id)]
     report.notes += [Note(f"{node.said()} has no row either", Place(file.source, *node.element.span()))
                      for node in others[:8]]
     rows = [row_for(file, nodes) for id_, nodes in missing.items() if is_row_id(id_) and id_ not in ABSENT]

@@ -2,6 +2,7 @@
 
 from typing import Dict, Iterator, List, Set, Tuple
 
+from .built_ins import LOOPS, NODES
 from .marks import Finding
 from .near import listed
 from .scripts import ScriptFault, statements
@@ -40,7 +41,7 @@ def default_keys(file: TreeFile, node: Node) -> Iterator[Tuple[int, str]]:
             yield node.scope(), key_of(default.name, text)
 
 
-def check_sizes(file: TreeFile, loops: Dict[str, str]) -> None:
+def check_sizes(file: TreeFile) -> None:
     """Raises where a tree has too many slots, or too much work."""
     cells: Set[Tuple[int, str]] = set()
     for node in file.nodes:
@@ -52,40 +53,48 @@ def check_sizes(file: TreeFile, loops: Dict[str, str]) -> None:
                           inside=file.where(node))
     works: Dict[int, int] = {}
     for node in reversed(file.nodes):
-        works[node.uid] = work_of(node, works, loops)
+        works[node.uid] = work_of(node, works)
     heavy = [node for node in file.nodes if works[node.uid] > MOST_WORK]
     if heavy:
         node = heavy[-1]
-        helps, notes = greatest(file, node, loops)
+        helps, notes = greatest(file, node)
         raise Finding("TooMuchWork", node.element.span(),
                       f"one visit of {node.said()} may make {works[node.uid]} visits",
-                      [f"at most {MOST_WORK} in one tick; a RetryUntilSuccessful or Repeat makes as many as its number "
-                       "times those below it; with -1 it makes one round a tick", *helps], notes, file.where(node))
+                      [f"at most {MOST_WORK} in one tick; a RetryUntilSuccessful, Repeat or RecoveryNode makes as many as its "
+                       "number times those below it; with -1 it makes one round a tick", *helps], notes, file.where(node))
 
 
-def greatest(file: TreeFile, node: Node, loops: Dict[str, str]) -> "tuple[List[str], List[Tuple[str, Tuple[int, int]]]]":
+def greatest(file: TreeFile, node: Node) -> "tuple[List[str], List[Tuple[str, Tuple[int, int]]]]":
     """What makes most of the work of a node: the one with the greatest factor, of it and of those below, and which of
     them have their number from a key."""
-    found = [other for other in file.nodes[node.uid - 1:node.last().uid] if times_of(other, loops) > 1]
+    found = [other for other in file.nodes[node.uid - 1:node.last().uid] if times_of(other) > 1]
     if not found:
         return [], []
-    most = max(found, key=lambda other: times_of(other, loops))
-    attribute = most.element.attribute(loops[most.kind])
-    notes = [(f"{most.said()} has the greatest factor, {times_of(most, loops)}", attribute.span())] if attribute else []
-    keys = [other for other in found if number(other.element.said(loops[other.kind]) or "") is None]
+    most = max(found, key=times_of)
+    attribute = most.element.attribute(LOOPS[most.kind])
+    notes = [(f"{most.said()} has the greatest factor, {times_of(most)}", attribute.span())] if attribute else []
+    keys = [other for other in found if number(turns_said(other)) is None]
     helps = [f"{listed(dict.fromkeys(other.said() for other in keys), 4)}: the number comes from a key, "
              "and 1000 is counted: write a number"] if keys else []
     return helps, notes
 
 
-def times_of(node: Node, loops: Dict[str, str]) -> int:
-    """How often one visit of a node visits its child at most: 1000 times where a key says the number."""
-    if node.kind not in loops:
+def turns_said(node: Node) -> str:
+    """What the port says that tells how often a node visits its children, or its default."""
+    said = node.element.said(LOOPS[node.kind])
+    return NODES[node.kind].ports[0].default or "" if said is None else said
+
+
+def times_of(node: Node) -> int:
+    """How often one visit of a node visits its children at most: 1000 times where a key says the number. A RecoveryNode
+    visits its first child once more."""
+    if node.kind not in LOOPS:
         return 1
-    times = number(node.element.said(loops[node.kind]) or "")
+    times = number(turns_said(node))
     return 1000 if times is None else 1 if times == -1 else times
 
 
-def work_of(node: Node, works: Dict[int, int], loops: Dict[str, str]) -> int:
+def work_of(node: Node, works: Dict[int, int]) -> int:
     """How many visits one visit of a node makes at most."""
-    return 1 + times_of(node, loops) * sum(works[child.uid] for child in node.children)
+    once_more = works[node.children[0].uid] if node.kind == "RecoveryNode" else 0
+    return 1 + times_of(node) * sum(works[child.uid] for child in node.children) + once_more

@@ -8,6 +8,9 @@ from .built_ins import RANGES, is_identifier
 
 CANONICAL = re.compile(r"0|-?[1-9][0-9]*")
 
+# digits of a rate; more before the point are above the greatest one
+RATE = re.compile(r"(?:0|[1-9][0-9]{0,3})(?:\.[0-9]{1,3})?")
+
 MOST_TEXT = 4096
 
 
@@ -44,11 +47,13 @@ def fits(range_: str, text: str) -> bool:
         return value is not None or len(text.encode()) <= MOST_TEXT
     if range_ == "truth":
         return text in ("true", "false", "1", "0")
+    if range_ == "rate":
+        return RATE.fullmatch(text) is not None and 0 < float(text) <= 1000
     if value is None:
         return False
     if range_ == "turns":
         return value == -1 or 1 <= value <= 1000
-    return range_ == "number" or 0 <= value <= 4294967295
+    return range_ == "number" or 0 <= value <= (1000 if range_ == "recoveries" else 4294967295)
 
 
 def trouble(range_: str, port: str, text: str) -> Optional[Trouble]:

@@ -64,6 +64,29 @@ class Reading:
         self.browser.run("page.select(6)")
         same("the lines of a group", self.browser.text("#node-source-title"), "Lines 9 to 12 of examples/pick_and_place.xml")
 
+    def test_visited_again(self):
+        """Below a PipelineSequence a leaf that succeeds again changes no status, and is visited nonetheless."""
+        tree = '<root><BehaviorTree ID="M"><PipelineSequence><A/><RateController hz="100"><B/></RateController></PipelineSequence></BehaviorTree></root>'
+        begin = ["tick 1 at 0", "node 1 IDLE RUNNING", "call 2 start SUCCESS", "node 2 IDLE SUCCESS", "node 3 IDLE RUNNING",
+                 "call 4 start RUNNING", "node 4 IDLE RUNNING", "root 1 RUNNING"]
+        again = ["tick 1 at 10", "call 2 start SUCCESS", "call 4 running RUNNING", "root 1 RUNNING"]
+        end = ["tick 1 at 20", "call 2 start FAILURE", "node 2 SUCCESS FAILURE", "node 2 FAILURE IDLE", "call 4 halted", "node 4 RUNNING IDLE",
+               "node 3 RUNNING IDLE", "node 1 RUNNING FAILURE", "root 1 FAILURE", "node 1 FAILURE IDLE"]
+        self.show(tree=tree, trace="".join(f"{line}\n" for line in begin + again + end))
+        self.browser.run("page.go(2)")
+        for uid, counts in ((1, ["so far 1 0 0 0", "in all 1 0 1 0"]), (2, ["so far 2 2 0 0", "in all 3 2 1 0"]),
+                            (3, ["so far 1 0 0 0", "in all 1 0 0 1"]), (4, ["so far 1 0 0 0", "in all 1 0 0 1"])):
+            self.browser.run(f"page.select({uid})")
+            same(f"the counts of node {uid}", self.browser.text("#node-counts").splitlines()[1:], counts)
+
+    def test_signs_of_navigation(self):
+        self.example("nav2_to_pose")
+        families = "return [1, 2, 3, 12].map((uid) => page.run.tree.node(uid).family)"
+        same("the signs", self.browser.run(families), ["recovery", "sequence", "decorator", "rotation"])
+        self.browser.boxes()
+        same("the letter of a pipeline", self.browser.run("return document.querySelector('.node[data-uid=\"2\"] .sign text').textContent"), "P")
+        self.look("navigation")
+
     def test_values_through_subtrees(self):
         self.example("deliver_mail")
         self.browser.run("page.go(page.length)")

@@ -28,6 +28,9 @@ pub enum Kind {
     Switch(u8),
     IfThenElse,
     WhileDoElse,
+    RecoveryNode,
+    PipelineSequence,
+    RoundRobin,
     Inverter,
     ForceSuccess,
     ForceFailure,
@@ -37,6 +40,7 @@ pub enum Kind {
     Timeout,
     Delay,
     RunOnce,
+    RateController,
     SubTree,
     AlwaysSuccess,
     AlwaysFailure,
@@ -50,6 +54,7 @@ pub enum Kind {
 enum Takes {
     /// A number from the least to the greatest, or -1 where it says so.
     Number(i64, i64, bool),
+    Rate,
     Truth,
     Any,
 }
@@ -65,12 +70,14 @@ const fn required(name: &'static str, takes: Takes) -> PortRule {
     PortRule { name, takes, default: None }
 }
 
+const fn optional(name: &'static str, takes: Takes, default: &'static str) -> PortRule {
+    PortRule { name, takes, default: Some(default) }
+}
+
+const ANY_NUMBER: Takes = Takes::Number(i64::MIN, i64::MAX, false);
 const TURNS: Takes = Takes::Number(1, 1_000, true);
 const MILLISECONDS: Takes = Takes::Number(0, 4_294_967_295, false);
-static PARALLEL: [PortRule; 2] = [
-    PortRule { name: "success_count", takes: Takes::Number(i64::MIN, i64::MAX, false), default: Some("-1") },
-    PortRule { name: "failure_count", takes: Takes::Number(i64::MIN, i64::MAX, false), default: Some("1") },
-];
+static PARALLEL: [PortRule; 2] = [optional("success_count", ANY_NUMBER, "-1"), optional("failure_count", ANY_NUMBER, "1")];
 static SWITCH: [PortRule; 7] = [
     required("variable", Takes::Any),
     required("case_1", Takes::Any),
@@ -80,99 +87,110 @@ static SWITCH: [PortRule; 7] = [
     required("case_5", Takes::Any),
     required("case_6", Takes::Any),
 ];
+static RECOVERY: [PortRule; 1] = [optional("number_of_retries", Takes::Number(0, 1_000, false), "1")];
 static RETRY: [PortRule; 1] = [required("num_attempts", TURNS)];
 static REPEAT: [PortRule; 1] = [required("num_cycles", TURNS)];
 static TIMEOUT: [PortRule; 1] = [required("msec", MILLISECONDS)];
 static DELAY: [PortRule; 1] = [required("delay_msec", MILLISECONDS)];
-static RUN_ONCE: [PortRule; 1] = [PortRule { name: "then_skip", takes: Takes::Truth, default: Some("true") }];
+static RUN_ONCE: [PortRule; 1] = [optional("then_skip", Takes::Truth, "true")];
+static RATE: [PortRule; 1] = [optional("hz", Takes::Rate, "10")];
 
-impl Kind {
-    /// The built-in node of this ID.
-    fn named(id: &str) -> Option<Kind> {
+/// What the file says of the nodes of a kind.
+#[derive(Clone, Copy)]
+struct NodeForm {
+    kind: Kind,
+    /// The explicit elements that may name it.
+    elements: &'static [&'static str],
+    /// How few and how many child elements it may have.
+    children: (u32, u32),
+    ports: &'static [PortRule],
+}
+
+const MANY: u32 = u32::MAX;
+const SUB_TREE: NodeForm = NodeForm { kind: Kind::SubTree, elements: &[], children: (0, 0), ports: &[] };
+const LEAF: NodeForm = NodeForm { kind: Kind::Leaf, elements: &[], children: (0, 0), ports: &[] };
+
+const fn control(kind: Kind, least: u32, most: u32, ports: &'static [PortRule]) -> NodeForm {
+    NodeForm { kind, elements: &["Control"], children: (least, most), ports }
+}
+
+const fn decorator(kind: Kind, ports: &'static [PortRule]) -> NodeForm {
+    NodeForm { kind, elements: &["Decorator"], children: (1, 1), ports }
+}
+
+const fn lone(kind: Kind) -> NodeForm {
+    NodeForm { kind, elements: &["Action", "Condition"], children: (0, 0), ports: &[] }
+}
+
+fn switch(cases: u8) -> NodeForm {
+    let count = u32::from(cases) + 1;
+    control(Kind::Switch(cases), count, count, &SWITCH[..count as usize])
+}
+
+impl NodeForm {
+    /// That of the built-in node of this ID.
+    fn named(id: &str) -> Option<NodeForm> {
         Some(match id {
-            "Sequence" => Kind::Sequence,
-            "SequenceWithMemory" => Kind::SequenceWithMemory,
-            "ReactiveSequence" => Kind::ReactiveSequence,
-            "Fallback" => Kind::Fallback,
-            "ReactiveFallback" => Kind::ReactiveFallback,
-            "Parallel" => Kind::Parallel,
-            "Switch2" => Kind::Switch(2),
-            "Switch3" => Kind::Switch(3),
-            "Switch4" => Kind::Switch(4),
-            "Switch5" => Kind::Switch(5),
-            "Switch6" => Kind::Switch(6),
-            "IfThenElse" => Kind::IfThenElse,
-            "WhileDoElse" => Kind::WhileDoElse,
-            "Inverter" => Kind::Inverter,
-            "ForceSuccess" => Kind::ForceSuccess,
-            "ForceFailure" => Kind::ForceFailure,
-            "KeepRunningUntilFailure" => Kind::KeepRunningUntilFailure,
-            "RetryUntilSuccessful" => Kind::Retry,
-            "Repeat" => Kind::Repeat,
-            "Timeout" => Kind::Timeout,
-            "Delay" => Kind::Delay,
-            "RunOnce" => Kind::RunOnce,
-            "AlwaysSuccess" => Kind::AlwaysSuccess,
-            "AlwaysFailure" => Kind::AlwaysFailure,
-            "Script" => Kind::Script,
-            "ScriptCondition" => Kind::ScriptCondition,
+            "Sequence" => control(Kind::Sequence, 1, MANY, &[]),
+            "SequenceWithMemory" => control(Kind::SequenceWithMemory, 1, MANY, &[]),
+            "ReactiveSequence" => control(Kind::ReactiveSequence, 1, MANY, &[]),
+            "Fallback" => control(Kind::Fallback, 1, MANY, &[]),
+            "ReactiveFallback" => control(Kind::ReactiveFallback, 1, MANY, &[]),
+            "Parallel" => control(Kind::Parallel, 1, MANY, &PARALLEL),
+            "Switch2" => switch(2),
+            "Switch3" => switch(3),
+            "Switch4" => switch(4),
+            "Switch5" => switch(5),
+            "Switch6" => switch(6),
+            "IfThenElse" => control(Kind::IfThenElse, 2, 3, &[]),
+            "WhileDoElse" => control(Kind::WhileDoElse, 2, 3, &[]),
+            "RecoveryNode" => control(Kind::RecoveryNode, 2, 2, &RECOVERY),
+            "PipelineSequence" => control(Kind::PipelineSequence, 1, MANY, &[]),
+            "RoundRobin" => control(Kind::RoundRobin, 1, MANY, &[]),
+            "Inverter" => decorator(Kind::Inverter, &[]),
+            "ForceSuccess" => decorator(Kind::ForceSuccess, &[]),
+            "ForceFailure" => decorator(Kind::ForceFailure, &[]),
+            "KeepRunningUntilFailure" => decorator(Kind::KeepRunningUntilFailure, &[]),
+            "RetryUntilSuccessful" => decorator(Kind::Retry, &RETRY),
+            "Repeat" => decorator(Kind::Repeat, &REPEAT),
+            "Timeout" => decorator(Kind::Timeout, &TIMEOUT),
+            "Delay" => decorator(Kind::Delay, &DELAY),
+            "RunOnce" => decorator(Kind::RunOnce, &RUN_ONCE),
+            "RateController" => decorator(Kind::RateController, &RATE),
+            "AlwaysSuccess" => lone(Kind::AlwaysSuccess),
+            "AlwaysFailure" => lone(Kind::AlwaysFailure),
+            "Script" => lone(Kind::Script),
+            "ScriptCondition" => lone(Kind::ScriptCondition),
             _ => return None,
         })
     }
 
-    /// Whether an explicit element of this name may be such a built-in node.
-    fn is_of_class(self, element: &str) -> bool {
-        match self {
-            Kind::AlwaysSuccess | Kind::AlwaysFailure | Kind::Script | Kind::ScriptCondition => {
-                matches!(element, "Action" | "Condition")
-            }
-            Kind::Inverter
-            | Kind::ForceSuccess
-            | Kind::ForceFailure
-            | Kind::KeepRunningUntilFailure
-            | Kind::Retry
-            | Kind::Repeat
-            | Kind::Timeout
-            | Kind::Delay
-            | Kind::RunOnce => element == "Decorator",
-            _ => element == "Control",
-        }
-    }
-
     /// Whether the node's element may have so many child elements.
-    fn takes_children(self, count: usize) -> bool {
-        match self {
-            Kind::Sequence | Kind::SequenceWithMemory | Kind::ReactiveSequence => count >= 1,
-            Kind::Fallback | Kind::ReactiveFallback | Kind::Parallel => count >= 1,
-            Kind::Switch(cases) => count == usize::from(cases) + 1,
-            Kind::IfThenElse | Kind::WhileDoElse => count == 2 || count == 3,
-            Kind::SubTree | Kind::Leaf => count == 0,
-            Kind::AlwaysSuccess | Kind::AlwaysFailure | Kind::Script | Kind::ScriptCondition => count == 0,
-            _ => count == 1,
-        }
+    fn takes_children(&self, count: u32) -> bool {
+        (self.children.0..=self.children.1).contains(&count)
     }
 
-    fn ports(self) -> &'static [PortRule] {
-        match self {
-            Kind::Parallel => &PARALLEL,
-            Kind::Switch(cases) => &SWITCH[..usize::from(cases) + 1],
-            Kind::Retry => &RETRY,
-            Kind::Repeat => &REPEAT,
-            Kind::Timeout => &TIMEOUT,
-            Kind::Delay => &DELAY,
-            Kind::RunOnce => &RUN_ONCE,
-            _ => &[],
-        }
+    fn has_code(&self) -> bool {
+        matches!(self.kind, Kind::Script | Kind::ScriptCondition)
     }
+}
 
-    fn has_code(self) -> bool {
-        matches!(self, Kind::Script | Kind::ScriptCondition)
+/// The thousandths of a hertz that a literal says, where it is a rate: digits without a 0 before another one, and at most a
+/// point and one to three digits after it.
+pub fn rate(text: &str) -> Option<u64> {
+    let (whole, part) = text.split_once('.').unwrap_or((text, "0"));
+    let are_digits = [whole, part].iter().all(|it| it.bytes().all(|byte| byte.is_ascii_digit()));
+    let is_whole = matches!(whole.len(), 1..=4) && (whole == "0" || !whole.starts_with('0'));
+    if !are_digits || !is_whole || !matches!(part.len(), 1..=3) {
+        return None;
     }
+    let thousandths = whole.parse::<u64>().ok()? * 1_000 + format!("{part:0<3}").parse::<u64>().ok()?;
+    (1..=1_000_000).contains(&thousandths).then_some(thousandths)
 }
 
 /// Whether an ID is that of a built-in node.
 pub fn is_built_in(id: &str) -> bool {
-    Kind::named(id).is_some()
+    NodeForm::named(id).is_some()
 }
 
 /// Whether no row has this ID, and no leaf is printed by it alone.
@@ -513,19 +531,25 @@ impl<'e> Builder<'e> {
         let mut work = 0u64;
         for (child, at) in elements.children(element).zip(children as usize..) {
             self.tree.children[at] = self.tree.nodes.len() as u32;
-            work = work.saturating_add(self.node(child, depth + 1, scope)?);
+            let turns = self.turns(&spec, at - children as usize);
+            work = work.saturating_add(self.node(child, depth + 1, scope)?.saturating_mul(turns));
         }
-        Ok(work.saturating_mul(self.turns(&spec)).saturating_add(1))
+        Ok(work.saturating_add(1))
     }
 
-    /// How often a node visits its children at most in one visit.
-    fn turns(&self, spec: &Spec) -> u64 {
-        if !matches!(spec.kind, Kind::Retry | Kind::Repeat) {
+    /// How often a node visits this child at most in one visit.
+    fn turns(&self, spec: &Spec, child: usize) -> u64 {
+        if !matches!(spec.kind, Kind::Retry | Kind::Repeat | Kind::RecoveryNode) {
             return 1;
         }
-        match self.tree.settings[spec.settings as usize] {
+        let turns = match self.tree.settings[spec.settings as usize] {
             Given::Int(turns) => u64::try_from(turns).unwrap_or(1),
             _ => 1_000,
+        };
+        if spec.kind == Kind::RecoveryNode && child == 0 {
+            turns + 1
+        } else {
+            turns
         }
     }
 
@@ -540,32 +564,33 @@ impl<'e> Builder<'e> {
         Ok(())
     }
 
-    /// The kind and the ID of an element's node, or none where it is no node.
-    fn head(&self, element: u32) -> Option<(Kind, &'e str)> {
+    /// The form and the ID of an element's node, or none where it is no node.
+    fn head(&self, element: u32) -> Option<(NodeForm, &'e str)> {
         let elements = self.tree.elements;
         let name = elements.get(element).name;
         if name == "SubTree" || (self.is_old && name == "SubTreePlus") {
-            return Some((Kind::SubTree, elements.attribute(element, "ID").unwrap_or("")));
+            return Some((SUB_TREE, elements.attribute(element, "ID").unwrap_or("")));
         }
         let is_explicit = matches!(name, "Action" | "Condition" | "Control" | "Decorator");
         let written = if is_explicit { elements.attribute(element, "ID")? } else { name };
         let id = if self.is_old && written == "SequenceStar" { "SequenceWithMemory" } else { written };
-        if let Some(kind) = Kind::named(id) {
-            return (!is_explicit || kind.is_of_class(name)).then_some((kind, id));
+        if let Some(form) = NodeForm::named(id) {
+            return (!is_explicit || form.elements.contains(&name)).then_some((form, id));
         }
         let is_leaf = match name {
             "Control" | "Decorator" | "BehaviorTree" | "TreeNodesModel" | "root" => false,
             _ => elements.get(element).count == 0,
         };
-        is_leaf.then_some((Kind::Leaf, id))
+        is_leaf.then_some((LEAF, id))
     }
 
     /// Reads what an element says when its first node is reached.
     fn spec(&mut self, element: u32, uid: u32, scope: u32) -> Result<u32, Refusal> {
         let elements = self.tree.elements;
-        let (kind, id) = self.head(element).ok_or_else(|| fault("UnknownNode", uid))?;
+        let (form, id) = self.head(element).ok_or_else(|| fault("UnknownNode", uid))?;
+        let kind = form.kind;
         let mut tree = NONE;
-        let mut has_children = kind.takes_children(elements.get(element).count as usize);
+        let mut has_children = form.takes_children(elements.get(element).count);
         if kind == Kind::SubTree {
             tree = *self.tree_of.get(id).ok_or_else(|| no_tree(id))?;
             self.may_open(tree, id)?;
@@ -576,14 +601,14 @@ impl<'e> Builder<'e> {
         }
         let within = self.scopes[scope as usize].tree;
         let from = self.tree.ports.len() as u32;
-        let mut sorted = self.sort(element, kind, id, within);
+        let mut sorted = self.sort(element, &form, id, within);
         if sorted.is_unknown {
             return Err(fault("UnknownPort", uid));
         }
         if sorted.is_old {
             return Err(fault("OldSubTree", uid));
         }
-        let settings = self.fill_in(&mut sorted, kind, id, from, within);
+        let settings = self.fill_in(&mut sorted, &form, id, from, within);
         if sorted.is_bad {
             return Err(fault("BadLiteral", uid));
         }
@@ -602,7 +627,8 @@ impl<'e> Builder<'e> {
     }
 
     /// Sorts the attributes of an element, and appends its ports to those of all.
-    fn sort(&mut self, element: u32, kind: Kind, id: &'e str, tree: u32) -> Sorted<'e> {
+    fn sort(&mut self, element: u32, form: &NodeForm, id: &'e str, tree: u32) -> Sorted<'e> {
+        let kind = form.kind;
         let elements = self.tree.elements;
         let element_name = elements.get(element).name;
         let is_old_subtree = self.is_old && element_name == "SubTree";
@@ -615,7 +641,7 @@ impl<'e> Builder<'e> {
             match name {
                 "name" => sorted.name = value,
                 "ID" => {}
-                "code" if kind.has_code() => sorted.code = Some(value),
+                "code" if form.has_code() => sorted.code = Some(value),
                 _ if name.starts_with('_') => {
                     sorted.is_old |= is_old_subtree;
                     if let Some(guard) = GUARDS.iter().position(|&it| it == name) {
@@ -633,9 +659,9 @@ impl<'e> Builder<'e> {
                     sorted.is_unknown |= match kind {
                         Kind::SubTree => false,
                         Kind::Leaf => model.is_some_and(|it| !it.names.contains(name)),
-                        _ => !kind.ports().iter().any(|it| it.name == name),
+                        _ => !form.ports.iter().any(|it| it.name == name),
                     };
-                    sorted.is_bad |= !self.port(name, value, kind, tree);
+                    sorted.is_bad |= !self.port(name, value, form, tree);
                 }
             }
         }
@@ -643,8 +669,8 @@ impl<'e> Builder<'e> {
     }
 
     /// Appends a port, and says whether its value may stand there.
-    fn port(&mut self, name: &'e str, text: &'e str, kind: Kind, tree: u32) -> bool {
-        let mut is_good = kind != Kind::SubTree || is_identifier(name.as_bytes());
+    fn port(&mut self, name: &'e str, text: &'e str, form: &NodeForm, tree: u32) -> bool {
+        let mut is_good = form.kind != Kind::SubTree || is_identifier(name.as_bytes());
         let key = text.strip_prefix('{').and_then(|it| it.strip_suffix('}'));
         let given = if let Some(key) = key {
             let key = if key == "=" { name } else { key };
@@ -657,10 +683,11 @@ impl<'e> Builder<'e> {
             is_good &= text.len() <= LONGEST;
             Given::Text(text)
         };
-        if let Some(rule) = kind.ports().iter().find(|it| it.name == name) {
+        if let Some(rule) = form.ports.iter().find(|it| it.name == name) {
             is_good &= match (given, rule.takes) {
                 (Given::Key(..), _) | (_, Takes::Any) => true,
                 (_, Takes::Truth) => matches!(text, "true" | "false" | "1" | "0"),
+                (_, Takes::Rate) => rate(text).is_some(),
                 (Given::Int(number), Takes::Number(least, greatest, or_endless)) => {
                     (least..=greatest).contains(&number) || (or_endless && number == -1)
                 }
@@ -672,8 +699,8 @@ impl<'e> Builder<'e> {
     }
 
     /// Fills in defaults, and lists the settings of a built-in node or the mapping of a SubTree: where they are.
-    fn fill_in(&mut self, sorted: &mut Sorted<'e>, kind: Kind, id: &str, from: u32, tree: u32) -> u32 {
-        match kind {
+    fn fill_in(&mut self, sorted: &mut Sorted<'e>, form: &NodeForm, id: &str, from: u32, tree: u32) -> u32 {
+        match form.kind {
             Kind::Leaf => {
                 self.fill_in_model(sorted, id, from, tree);
                 0
@@ -684,14 +711,14 @@ impl<'e> Builder<'e> {
                 self.mappings.len() as u32 - 1
             }
             _ => {
-                sorted.is_bad |= kind.has_code() && sorted.code.is_none();
+                sorted.is_bad |= form.has_code() && sorted.code.is_none();
                 let settings = self.tree.settings.len() as u32;
-                for rule in kind.ports() {
+                for rule in form.ports {
                     let written = self.tree.ports[from as usize..].iter().position(|it| it.name == rule.name);
                     let at = match (written, rule.default) {
                         (Some(at), _) => from as usize + at,
                         (None, Some(default)) => {
-                            self.port(rule.name, default, kind, tree);
+                            self.port(rule.name, default, form, tree);
                             self.tree.ports.len() - 1
                         }
                         (None, None) => {
@@ -714,7 +741,7 @@ impl<'e> Builder<'e> {
         let written: Set<&str> = self.tree.ports[from as usize..].iter().map(|it| it.name).collect();
         for &(name, default) in &model.defaults {
             if !written.contains(name) {
-                sorted.is_bad |= !self.port(name, default, Kind::Leaf, tree);
+                sorted.is_bad |= !self.port(name, default, &LEAF, tree);
             }
         }
     }

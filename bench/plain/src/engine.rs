@@ -2,7 +2,7 @@
 //!
 //! A visit calls itself for the children, so its stack grows with the depth of the tree, which is 256 at most.
 
-use crate::build::{Given, Guards, Kind, Node, Tree};
+use crate::build::{rate, Given, Guards, Kind, Node, Tree};
 use crate::elements::NONE;
 use crate::output::{quoted, Exit, Refusal};
 use crate::scan::{canonical, Canonical};
@@ -156,17 +156,21 @@ fn find_told(tree: &Tree, world: &World, joined: &Leaves, uid: u32, telling: u32
     Ok(())
 }
 
-/// What a node keeps beside its status. Only the index of a SequenceWithMemory and the mark of a RunOnce mean something
-/// while the node is not RUNNING, so only these are cleared.
+/// What a node keeps beside its status. Only the index of a SequenceWithMemory, the mark of a RunOnce, the child at hand of a
+/// RoundRobin and the pace of a RateController mean something while the node is not RUNNING, so only these are cleared.
 #[derive(Clone, Copy, PartialEq)]
 enum Memo {
     Nothing,
     Index { at: u32, seen: bool },
     Counts { need: u16, most: u16, skips: bool, successes: u16, failures: u16 },
     Chosen(u32),
+    Recoveries { recovers: bool, done: u16, limit: u16 },
+    Farthest(u32),
+    AtHand { at: u32, passed: u16, skipped: u16 },
     Turns { done: i32, limit: i32 },
     Since { first: u64, length: u32 },
     Finished(Answer),
+    Pace { moment: u64, thousandths: u32, is_new: bool },
 }
 
 /// What a leaf's driver keeps of a leaf.
@@ -308,6 +312,9 @@ impl<'t, N: Notes> Turn<'t, N> {
         if old != new {
             self.notes.changed(at, old, new);
         }
+        if new == Status::Idle && matches!(self.memo(at), Memo::Pace { .. }) {
+            self.keep(at, Memo::Nothing);
+        }
     }
 
     fn memo(&self, at: u32) -> Memo {
@@ -363,7 +370,7 @@ impl<'t, N: Notes> Turn<'t, N> {
             (instance.is_held, instance.told) = (false, None);
             self.notes.halted(at);
         }
-        if node.kind == Kind::SequenceWithMemory {
+        if matches!(node.kind, Kind::SequenceWithMemory | Kind::RoundRobin) {
             self.keep(at, Memo::Nothing);
         }
         self.become_(at, Status::Idle);
@@ -485,6 +492,10 @@ impl<'t, N: Notes> Turn<'t, N> {
             Kind::Switch(cases) => self.switch(at, node, starts, u32::from(cases)),
             Kind::IfThenElse => self.if_then_else(at, node, starts),
             Kind::WhileDoElse => self.while_do_else(node),
+            Kind::RecoveryNode => self.recovery(at, node, starts),
+            Kind::PipelineSequence => self.pipeline(at, node, starts),
+            Kind::RoundRobin => self.round_robin(at, node, starts),
+            Kind::RateController => self.rated(at, node),
             Kind::Retry => self.again(at, node, starts, Answer::Failure, Setting::NumAttempts),
             Kind::Repeat => self.again(at, node, starts, Answer::Success, Setting::NumCycles),
             Kind::Timeout | Kind::Delay => self.timed(at, node, starts),
@@ -703,6 +714,109 @@ impl<'t, N: Notes> Turn<'t, N> {
         self.reset_others(node, branch)?;
         let answer = self.visit(self.child(node, branch))?;
         self.pass(node, answer)
+    }
+
+    #[inline(never)]
+    fn recovery(&mut self, at: u32, node: &Node, starts: bool) -> Visited {
+        let (mut recovers, mut done, limit) = match self.memo(at) {
+            Memo::Recoveries { recovers, done, limit } if !starts => (recovers, done, limit),
+            _ => (false, 0, self.setting(at, node, 0, Setting::NumberOfRetries, 0, 1_000)? as u16),
+        };
+        loop {
+            let child = self.child(node, u32::from(recovers));
+            match (recovers, self.visit(child)?) {
+                (_, Answer::Running) => {
+                    self.keep(at, Memo::Recoveries { recovers, done, limit });
+                    return Ok(Answer::Running);
+                }
+                (false, Answer::Failure) if done < limit => {}
+                (true, Answer::Success) => done += 1,
+                (true, _) => return self.over(node, Answer::Failure),
+                (false, answer) => return self.over(node, answer),
+            }
+            self.reset(child)?;
+            recovers = !recovers;
+        }
+    }
+
+    #[inline(never)]
+    fn pipeline(&mut self, at: u32, node: &Node, starts: bool) -> Visited {
+        let farthest = match self.memo(at) {
+            Memo::Farthest(number) if !starts => number,
+            _ => 0,
+        };
+        let mut seen = false;
+        for number in 0..node.count {
+            match self.visit(self.child(node, number))? {
+                Answer::Skipped => continue,
+                Answer::Failure => return self.over(node, Answer::Failure),
+                Answer::Running if number >= farthest => {
+                    self.keep(at, Memo::Farthest(number));
+                    return Ok(Answer::Running);
+                }
+                Answer::Running | Answer::Success => seen = true,
+            }
+        }
+        self.over(node, if seen { Answer::Success } else { Answer::Skipped })
+    }
+
+    #[inline(never)]
+    fn round_robin(&mut self, at: u32, node: &Node, starts: bool) -> Visited {
+        let (mut hand, mut passed, mut skipped) = match self.memo(at) {
+            Memo::AtHand { at, passed, skipped } if !starts => (at, passed, skipped),
+            Memo::AtHand { at, .. } => (at, 0, 0),
+            _ => (0, 0, 0),
+        };
+        while u32::from(passed) < node.count {
+            let child = self.child(node, hand);
+            let answer = self.visit(child)?;
+            if answer == Answer::Running {
+                self.keep(at, Memo::AtHand { at: hand, passed, skipped });
+                return Ok(answer);
+            }
+            hand = (hand + 1) % node.count;
+            if answer == Answer::Success {
+                self.keep(at, Memo::AtHand { at: hand, passed: 0, skipped: 0 });
+                return self.over(node, answer);
+            }
+            self.reset(child)?;
+            passed += 1;
+            skipped += u16::from(answer == Answer::Skipped);
+        }
+        self.keep(at, Memo::Nothing);
+        self.over(node, if passed == skipped { Answer::Skipped } else { Answer::Failure })
+    }
+
+    /// RateController. Its memo is cleared as soon as it is IDLE, so one that is there tells the pace.
+    #[inline(never)]
+    fn rated(&mut self, at: u32, node: &Node) -> Visited {
+        let (mut moment, thousandths, is_new) = match self.memo(at) {
+            Memo::Pace { moment, thousandths, is_new } => (moment, thousandths, is_new),
+            _ => (self.now, self.rate(at, node)?, true),
+        };
+        let child = self.child(node, 0);
+        let is_running = self.runner.statuses[child as usize] == Status::Running;
+        if !is_new && !is_running && (self.now - moment).saturating_mul(thousandths.into()) < 1_000_000 {
+            return Ok(Answer::Running);
+        }
+        let answer = self.visit(child)?;
+        if answer == Answer::Success {
+            moment = self.now;
+        }
+        self.keep(at, Memo::Pace { moment, thousandths, is_new: false });
+        self.pass(node, answer)
+    }
+
+    /// The thousandths of a hertz of a RateController.
+    fn rate(&mut self, at: u32, node: &Node) -> Result<u32, Broken> {
+        let literal = match self.plan.tree.settings[node.detail as usize] {
+            Given::Text(text) => rate(text),
+            _ => None,
+        };
+        match literal {
+            Some(thousandths) => Ok(thousandths as u32),
+            None => Ok(self.setting(at, node, 0, Setting::Hz, 1, 1_000)? as u32 * 1_000),
+        }
     }
 
     /// RetryUntilSuccessful and Repeat, by the answer after which the child is visited again.

@@ -48,11 +48,13 @@ pub enum Cause {
 pub enum Setting {
     SuccessCount,
     FailureCount,
+    NumberOfRetries,
     NumAttempts,
     NumCycles,
     Msec,
     DelayMsec,
     ThenSkip,
+    Hz,
 }
 
 impl Setting {
@@ -61,11 +63,13 @@ impl Setting {
         match self {
             Setting::SuccessCount => "success_count",
             Setting::FailureCount => "failure_count",
+            Setting::NumberOfRetries => "number_of_retries",
             Setting::NumAttempts => "num_attempts",
             Setting::NumCycles => "num_cycles",
             Setting::Msec => "msec",
             Setting::DelayMsec => "delay_msec",
             Setting::ThenSkip => "then_skip",
+            Setting::Hz => "hz",
         }
     }
 }

@@ -16,7 +16,7 @@ HaveFewCases (row ∷ rows) = FewCases row.1 × HaveFewCases rows
 
 built_ins_have : HaveFewCases named_kinds
 unfolding named_kinds
-built_ins_have = (tt, (tt, (tt, (tt, (tt, (tt, ((lit≤ tt), ((lit≤ tt), ((lit≤ tt), ((lit≤ tt), ((lit≤ tt), (tt, (tt, (tt, (tt, (tt, (tt, (tt, (tt, (tt, (tt, (tt, (tt, (tt, (tt, (tt, tt))))))))))))))))))))))))))
+built_ins_have = (tt, (tt, (tt, (tt, (tt, (tt, ((lit≤ tt), ((lit≤ tt), ((lit≤ tt), ((lit≤ tt), ((lit≤ tt), (tt, (tt, (tt, (tt, (tt, (tt, (tt, (tt, (tt, (tt, (tt, (tt, (tt, (tt, (tt, (tt, (tt, (tt, (tt, tt))))))))))))))))))))))))))))))
 
 found_has : (rows : List (List ℕ × Kind)) → HaveFewCases rows → (name : List ℕ) (cases : ℕ) → kind_among rows name ≡ Some (Switch cases) → cases ≤ 6
 found_has [] have name cases is = cc

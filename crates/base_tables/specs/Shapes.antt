@@ -5,7 +5,10 @@ use Rattle.spec_tree.specs.declared.built_ins.Range.{Range}
 use Rattle.spec_tree.specs.declared.built_ins.Range.TheVariants as range
 use Rattle.spec_run.specs.declared.memory.Counts.{Counts}
 use Rattle.spec_run.specs.declared.memory.Memo.{Memo}
-use Rattle.spec_run.specs.declared.memory.Memo.TheVariants.{Nothing, Index, Chosen, Finished, Counts as Counted, Turns as Turned, Since as Begun}
+use Rattle.spec_run.specs.declared.memory.Memo.TheVariants.{Nothing, Index, Chosen, Finished, Counts as Counted, Turns as Turned, Since as Begun, Recoveries as Recovering, Rotation as Rotating, Pace as Paced}
+use Rattle.spec_run.specs.declared.memory.Pace.{Pace}
+use Rattle.spec_run.specs.declared.memory.Recoveries.{Recoveries}
+use Rattle.spec_run.specs.declared.memory.Rotation.{Rotation}
 use Rattle.spec_run.specs.declared.memory.Since.{Since}
 use Rattle.spec_run.specs.declared.memory.Turns.{Turns}
 use Rattle.spec_run.specs.declared.status.Answer.{Answer}
@@ -13,7 +16,7 @@ use Rattle.spec_run.specs.declared.status.Answer.TheVariants as answer
 use Rattle.spec_run.specs.declared.status.Status.{Status}
 use Rattle.spec_run.specs.declared.status.Status.TheVariants.{Idle, Running, Success, Failure}
 use Rattle.spec_tree.specs.declared.term.Kind.{Kind}
-use Rattle.spec_tree.specs.declared.term.Kind.TheVariants.{Sequence, SequenceWithMemory, ReactiveSequence, Fallback, ReactiveFallback, Parallel, Switch, IfThenElse, WhileDoElse, Inverter, ForceSuccess, ForceFailure, KeepRunningUntilFailure, Retry, Repeat, Timeout, Delay, RunOnce, SubTree, Leaf}
+use Rattle.spec_tree.specs.declared.term.Kind.TheVariants.{Sequence, SequenceWithMemory, ReactiveSequence, Fallback, ReactiveFallback, Parallel, Switch, IfThenElse, WhileDoElse, RecoveryNode, PipelineSequence, RoundRobin, Inverter, ForceSuccess, ForceFailure, KeepRunningUntilFailure, Retry, Repeat, Timeout, Delay, RunOnce, RateController, SubTree, Leaf}
 use Rattle.spec_tree.specs.declared.term.Port.{Port}
 use Rattle.spec_tree.specs.declared.term.PortValue.{PortValue}
 use Rattle.spec_tree.specs.declared.term.PortValue.TheVariants.{Lit, Key}
@@ -21,9 +24,11 @@ use Rattle.spec_world.specs.declared.world.Row.{Row}
 use Rattle.spec_world.specs.declared.world.RowSort.{RowSort}
 use Rattle.spec_world.specs.declared.world.RowSort.TheVariants.{Timed, Replay, Gate, Told}
 use Rattle.spec_tree.specs.Boards.{port_of}
-use Rattle.spec_tree.specs.BuiltIns.{fits}
+use Rattle.spec_tree.specs.BuiltIns.{fits, rate_of}
+use Rattle.base_tables.specs.Moves.{place_at_hand}
 use Rattle.spec_run.specs.Ports.{given_by}
 use Rattle.spec_run.specs.Rules.Parallels.{failure_holds, success_holds}
+use Rattle.spec_run.specs.Rules.RoundRobins.{rotation_at}
 use Rattle.spec_run.specs.Steps.{is_completed}
 
 -- whether a status is RUNNING
@@ -69,6 +74,11 @@ pub record StandsAt (place : ℕ) (ss : List Status) : Type 0 where
 pub record OneRuns (place : ℕ) (ss : List Status) : Type 0 where
   pub runs : status_at ss place ≡ Running
   pub others : (k : ℕ) → (k ≡ place → ⊥) → status_at ss k ≡ Idle
+
+-- the child at this place is RUNNING, and those after it are IDLE
+pub record FarthestRuns (place : ℕ) (ss : List Status) : Type 0 where
+  pub runs : status_at ss place ≡ Running
+  pub following : IdleFrom (place + 1) ss
 
 -- each child is IDLE or RUNNING
 abbrev pub NoneCompleted : List Status → Type 0
@@ -118,6 +128,35 @@ pub record IsBegun (since : Since) (moment : ℕ) (ports : List Port) (name : Li
   pub first : since.first ≤ moment
   pub length : IsGivenAt range.Duration ports name (pos since.length)
 
+-- the recoveries of a RecoveryNode with the limit that its port is given: one is left while the second child is at hand
+pub record IsRecovering (r : Recoveries) (ports : List Port) : Type 0 where
+  pub limit : IsGivenAt range.Recoveries ports (codes "number_of_retries") (pos r.limit)
+  pub within : r.done ≤ r.limit
+  pub goes_on : r.recovers ≡ true → r.done < r.limit
+
+-- the rotation of a RoundRobin with so many children: the child at hand is there, and not all have failed or were
+-- skipped
+pub record IsRotating (r : Rotation) (n : ℕ) : Type 0 where
+  pub at : r.at < n
+  pub passed : r.passed < n
+  pub skipped : r.skipped ≤ r.passed
+
+-- the rate that a port is given: that of its literal, or for a key one of a number
+abbrev pub IsRate : Option PortValue → ℕ → Type 0
+IsRate (Some (Lit value)) rate = rate_of value ≡ Some rate
+IsRate (Some (Key key)) rate = (n : ℤ) × (rate_of (Int n) ≡ Some rate)
+IsRate None rate = ⊥
+
+-- the pace of a RateController with the rate that its port is given, whose moment is not after this one
+pub record IsPaced (p : Pace) (moment : ℕ) (ports : List Port) : Type 0 where
+  pub first : p.first ≤ moment
+  pub rate : IsRate (given_by (port_of ports (codes "hz"))) p.rate
+
+-- the child of a RateController is RUNNING where it is due, and else IDLE
+abbrev pub PacedChild : Bool → List Status → Type 0
+PacedChild true ss = OneRuns 0 ss
+PacedChild false ss = AllIdle ss
+
 -- the row of a leaf that can be RUNNING is timed, replay, gate or told
 abbrev pub Lasts : RowSort → Type 0
 Lasts (Timed ms fails) = Unit {0}
@@ -145,6 +184,9 @@ RunningShape (Switch cases) ports row moment (Chosen (Some place)) ss = OneRuns 
 RunningShape IfThenElse ports row moment (Chosen None) ss = OneRuns 0 ss
 RunningShape IfThenElse ports row moment (Chosen (Some place)) ss = BranchRuns place ss
 RunningShape WhileDoElse ports row moment Nothing ss = NoneCompleted ss
+RunningShape RecoveryNode ports row moment (Recovering r) ss = IsRecovering r ports × OneRuns (place_at_hand r) ss
+RunningShape PipelineSequence ports row moment (Index at true) ss = FarthestRuns at ss
+RunningShape RoundRobin ports row moment (Rotating r) ss = IsRotating r (length ss) × OneRuns r.at ss
 RunningShape SubTree ports row moment Nothing ss = NoneCompleted ss
 RunningShape Inverter ports row moment Nothing ss = NoneCompleted ss
 RunningShape ForceSuccess ports row moment Nothing ss = NoneCompleted ss
@@ -155,6 +197,7 @@ RunningShape Repeat ports row moment (Turned t) ss = IsTurned t ports (codes "nu
 RunningShape Timeout ports row moment (Begun since) ss = IsBegun since moment ports (codes "msec") × NoneCompleted ss
 RunningShape Delay ports row moment (Begun since) ss = IsBegun since moment ports (codes "delay_msec") × NoneCompleted ss
 RunningShape RunOnce ports row moment (Finished None) ss = NoneCompleted ss
+RunningShape RateController ports row moment (Paced p) ss = IsPaced p moment ports × PacedChild p.due ss
 RunningShape Leaf ports row moment Nothing ss = RowLasts row × AllIdle ss
 RunningShape _ ports row moment memo ss = ⊥
 
@@ -164,15 +207,18 @@ IsMark answer.Success = Unit {0}
 IsMark answer.Failure = Unit {0}
 IsMark _ = ⊥
 
--- of a node that is not RUNNING: its children are IDLE and its memo is clear, but for the index that a
--- SequenceWithMemory keeps, before which children may have completed, and for the mark of a RunOnce
-abbrev pub RestingShape : Memo → Kind → List Status → Type 0
-RestingShape Nothing kind ss = AllIdle ss
-RestingShape (Index at false) SequenceWithMemory ss = (at < length ss) × NoneRunsBefore at ss × IdleFrom at ss
-RestingShape (Finished (Some a)) RunOnce ss = IsMark a × AllIdle ss
-RestingShape _ kind ss = ⊥
+-- of a node that is not RUNNING, with these ports at a moment: its children are IDLE and its memo is clear, but for the
+-- index that a SequenceWithMemory keeps, before which children may have completed, for the mark of a RunOnce, for the
+-- child at hand of a RoundRobin and for the pace of a RateController
+abbrev pub RestingShape : List Port → ℕ → Memo → Kind → List Status → Type 0
+RestingShape ports moment Nothing kind ss = AllIdle ss
+RestingShape ports moment (Index at false) SequenceWithMemory ss = (at < length ss) × NoneRunsBefore at ss × IdleFrom at ss
+RestingShape ports moment (Finished (Some a)) RunOnce ss = IsMark a × AllIdle ss
+RestingShape ports moment (Rotating r) RoundRobin ss = (r.at < length ss) × (r ≡ rotation_at r.at) × AllIdle ss
+RestingShape ports moment (Paced p) RateController ss = IsPaced p moment ports × (p.due ≡ false) × AllIdle ss
+RestingShape ports moment _ kind ss = ⊥
 
 -- what may be together at a node with this status
 abbrev pub Shape : Status → Kind → List Port → Option Row → ℕ → Memo → List Status → Type 0
 Shape Running kind ports row moment memo ss = RunningShape kind ports row moment memo ss
-Shape _ kind ports row moment memo ss = RestingShape memo kind ss
+Shape _ kind ports row moment memo ss = RestingShape ports moment memo kind ss

@@ -1,8 +1,10 @@
-ghost use Rattle.std.specs.Prelude.{◌≡◌, ◌+◌, map, take};
+ghost use Rattle.std.specs.Prelude.{◌≡◌, ◌+◌, ◌<◌, Some, map, take};
 ghost use Rattle.spec_script.specs.declared.value.Value.TheVariants.{Int, Text};
-ghost use Rattle.spec_tree.specs.BuiltIns.{class_of, fits, has_code, has_rule, kind_among, kind_named, named_kinds, ports_of, switch_ports, takes, takes_by, writes};
+ghost use Rattle.spec_tree.specs.BuiltIns.{class_of, fits, has_code, has_rule, kind_among, kind_named, named_kinds, ports_of, rate_of, rate_within, switch_ports, takes, takes_by, writes};
+ghost use Rattle.spec_tree.specs.Numbers.{number_in, thousandths_by};
 ghost use Rattle.base_tables.specs.BuiltInRows.{is_control, row_seen, rule_seen};
 
+use crate::numbers::{after_point, int, point_in};
 use spec_tree::{Class, Kind, Range};
 
 /// A port of a built-in node. One without a default must be written.
@@ -14,7 +16,7 @@ pub struct PortRule {
 }
 
 /// The built-in nodes by their names.
-static NAMED: [(&str, Kind); 26] = [
+static NAMED: [(&str, Kind); 30] = [
     ("Sequence", Kind::Sequence),
     ("SequenceWithMemory", Kind::SequenceWithMemory),
     ("ReactiveSequence", Kind::ReactiveSequence),
@@ -28,6 +30,9 @@ static NAMED: [(&str, Kind); 26] = [
     ("Switch6", Kind::Switch(6)),
     ("IfThenElse", Kind::IfThenElse),
     ("WhileDoElse", Kind::WhileDoElse),
+    ("RecoveryNode", Kind::RecoveryNode),
+    ("PipelineSequence", Kind::PipelineSequence),
+    ("RoundRobin", Kind::RoundRobin),
     ("Inverter", Kind::Inverter),
     ("ForceSuccess", Kind::ForceSuccess),
     ("ForceFailure", Kind::ForceFailure),
@@ -37,6 +42,7 @@ static NAMED: [(&str, Kind); 26] = [
     ("Timeout", Kind::Timeout),
     ("Delay", Kind::Delay),
     ("RunOnce", Kind::RunOnce),
+    ("RateController", Kind::RateController),
     ("AlwaysSuccess", Kind::AlwaysSuccess),
     ("AlwaysFailure", Kind::AlwaysFailure),
     ("Script", Kind::ScriptNode),
@@ -131,6 +137,20 @@ static RUN_ONCE_PORTS: [PortRule; 1] = [PortRule {
     default: Some("true"),
 }];
 
+/// The most recoveries of a RecoveryNode.
+static RECOVERY_PORTS: [PortRule; 1] = [PortRule {
+    name: "number_of_retries",
+    range: Range::Recoveries,
+    default: Some("1"),
+}];
+
+/// The rate of a RateController, in hertz.
+static RATE_PORTS: [PortRule; 1] = [PortRule {
+    name: "hz",
+    range: Range::Rate,
+    default: Some("10"),
+}];
+
 /// No ports.
 static NO_PORTS: [PortRule; 0] = [];
 
@@ -173,6 +193,8 @@ pub fn ports_of(kind: Kind) -> &'static [PortRule]
         Kind::Timeout => TIMEOUT_PORTS.as_slice(),
         Kind::Delay => DELAY_PORTS.as_slice(),
         Kind::RunOnce => RUN_ONCE_PORTS.as_slice(),
+        Kind::RecoveryNode => RECOVERY_PORTS.as_slice(),
+        Kind::RateController => RATE_PORTS.as_slice(),
         Kind::Sequence
         | Kind::SequenceWithMemory
         | Kind::ReactiveSequence
@@ -180,6 +202,8 @@ pub fn ports_of(kind: Kind) -> &'static [PortRule]
         | Kind::ReactiveFallback
         | Kind::IfThenElse
         | Kind::WhileDoElse
+        | Kind::PipelineSequence
+        | Kind::RoundRobin
         | Kind::Inverter
         | Kind::ForceSuccess
         | Kind::ForceFailure
@@ -222,7 +246,10 @@ pub fn class_of(kind: Kind) -> Class
         | Kind::Parallel
         | Kind::Switch(_)
         | Kind::IfThenElse
-        | Kind::WhileDoElse => Class::Control,
+        | Kind::WhileDoElse
+        | Kind::RecoveryNode
+        | Kind::PipelineSequence
+        | Kind::RoundRobin => Class::Control,
         Kind::Inverter
         | Kind::ForceSuccess
         | Kind::ForceFailure
@@ -231,7 +258,8 @@ pub fn class_of(kind: Kind) -> Class
         | Kind::Repeat
         | Kind::Timeout
         | Kind::Delay
-        | Kind::RunOnce => Class::Decorator,
+        | Kind::RunOnce
+        | Kind::RateController => Class::Decorator,
         Kind::SubTree => Class::SubTree,
         Kind::AlwaysSuccess
         | Kind::AlwaysFailure
@@ -281,6 +309,7 @@ pub fn takes(kind: Kind, children: usize) -> bool
     match kind {
         Kind::Switch(cases) => children == usize::from(cases) + 1,
         Kind::IfThenElse | Kind::WhileDoElse => children == 2 || children == 3,
+        Kind::RecoveryNode => children == 2,
         _ => takes_by(class_of(kind), children),
     }
 }
@@ -307,6 +336,49 @@ pub fn writes(name: &[u8], class: Class) -> bool
     }
 }
 
+/// The rate of so many hertz, in thousandths of a hertz. None where no port may have it.
+pub fn int_rate(n: i64) -> Option<u32>
+    ensures { result ≡ rate_of (Int n) }
+{
+    if n >= 1 && n <= 1000 {
+        Some(n as u32 * 1000)
+    } else {
+        None
+    }
+}
+
+/// The rate of a word of whole hertz and the thousandths after its point, in thousandths of a hertz. None where no port
+/// may have it.
+fn rate_with(word: &[u8], more: u32) -> Option<u32>
+    requires { more < 1000 }
+    ensures { result ≡ rate_within (thousandths_by (number_in word.now) (Some more)) }
+{
+    match int(word) {
+        Some(whole) if whole >= 0 && whole <= 1000 => {
+            let rate = whole as u32 * 1000 + more;
+            if rate >= 1 && rate <= 1_000_000 {
+                Some(rate)
+            } else {
+                None
+            }
+        }
+        _ => None,
+    }
+}
+
+/// The rate that a text says, in thousandths of a hertz. None where it says none that a port may have.
+pub fn text_rate(text: &[u8]) -> Option<u32>
+    ensures { result ≡ rate_of (Text text.now) }
+{
+    match point_in(text) {
+        Some(point) => match after_point(&text[point + 1..]) {
+            Some(more) => rate_with(&text[..point], more),
+            None => None,
+        },
+        None => rate_with(text, 0),
+    }
+}
+
 /// Whether the number is within the range.
 pub fn int_fits(range: Range, n: i64) -> bool
     ensures { result ≡ fits range (Int n) }
@@ -316,6 +388,8 @@ pub fn int_fits(range: Range, n: i64) -> bool
         Range::Turns => n == -1 || n >= 1 && n <= 1000,
         Range::Duration => n >= 0 && n <= 4_294_967_295,
         Range::Truth => n == 0 || n == 1,
+        Range::Recoveries => n >= 0 && n <= 1000,
+        Range::Rate => int_rate(n).is_some(),
     }
 }
 
@@ -325,7 +399,8 @@ pub fn text_fits(range: Range, text: &[u8]) -> bool
 {
     match range {
         Range::AnyValue => text.len() <= 4096,
-        Range::AnyInt | Range::Turns | Range::Duration => false,
+        Range::AnyInt | Range::Turns | Range::Duration | Range::Recoveries => false,
         Range::Truth => text == b"true".as_slice() || text == b"false".as_slice(),
+        Range::Rate => text_rate(text).is_some(),
     }
 }

@@ -8,8 +8,8 @@ mod names;
 mod numbers;
 
 pub use built_ins::{
-    PortRule, class_of, has_code, has_rule, int_fits, is_control, kind_named, ports_of, takes,
-    text_fits, writes,
+    PortRule, class_of, has_code, has_rule, int_fits, int_rate, is_control, kind_named, ports_of,
+    takes, text_fits, text_rate, writes,
 };
 pub use limits::{
     LAST_MOMENT, MOST_DEPTH, MOST_EFFECTS, MOST_EVENTS, MOST_FACTS, MOST_FILE_BYTES, MOST_GOALS,

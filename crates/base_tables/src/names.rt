@@ -5,7 +5,7 @@ ghost use Rattle.spec_tree.specs.Names.{built_in_names, format_names, is_among};
 ghost use Rattle.spec_tree.specs.Names as kept;
 
 /// The names of the built-in nodes.
-const BUILT_IN: [&str; 26] = [
+const BUILT_IN: [&str; 30] = [
     "Sequence",
     "SequenceWithMemory",
     "ReactiveSequence",
@@ -19,6 +19,9 @@ const BUILT_IN: [&str; 26] = [
     "Switch6",
     "IfThenElse",
     "WhileDoElse",
+    "RecoveryNode",
+    "PipelineSequence",
+    "RoundRobin",
     "Inverter",
     "ForceSuccess",
     "ForceFailure",
@@ -28,6 +31,7 @@ const BUILT_IN: [&str; 26] = [
     "Timeout",
     "Delay",
     "RunOnce",
+    "RateController",
     "AlwaysSuccess",
     "AlwaysFailure",
     "Script",

@@ -1,8 +1,8 @@
-ghost use Rattle.std.specs.Prelude.{◌≡◌, ◌≤◌, IfSome, IsTrue, Some, pos, true};
+ghost use Rattle.std.specs.Prelude.{◌≡◌, ◌==◌, ◌<◌, ◌≤◌, IfSome, IsTrue, Some, pos, true};
 ghost use Rattle.std.specs.Char.{is_ascii_digit};
-ghost use Rattle.std.specs.List.{list_all};
+ghost use Rattle.std.specs.List.{list_all, position};
 ghost use Rattle.std.specs.Str.Parse.{digits_value, signed_digits_value};
-ghost use Rattle.spec_tree.specs.Numbers.{int_in, is_positive, without_minus};
+ghost use Rattle.spec_tree.specs.Numbers.{int_in, is_positive, thousandths_after, without_minus};
 ghost use Rattle.spec_tree.specs.Numbers as numbers;
 
 use std::str;
@@ -103,5 +103,30 @@ pub fn int(word: &[u8]) -> Option<i64>
         canonical_int(word)
     } else {
         None
+    }
+}
+
+/// The place of the first point of a word.
+pub(crate) fn point_in(word: &[u8]) -> Option<usize>
+    ensures { result ≡ position (λ b. b == 46) word.now }
+{
+    word.iter().position(|b| *b == b'.')
+}
+
+/// The thousandths that the bytes after a point count. None where they are not one to three digits.
+pub(crate) fn after_point(digits: &[u8]) -> Option<u32>
+    ensures counts { result ≡ thousandths_after digits.now }
+    ensures few { IfSome result (λ n. n < 1000) }
+{
+    if !all_digits(digits) {
+        return None;
+    }
+    match digits {
+        [a] => Some(100 * u32::from(*a - b'0')),
+        [a, b] => Some(100 * u32::from(*a - b'0') + 10 * u32::from(*b - b'0')),
+        [a, b, c] => {
+            Some(100 * u32::from(*a - b'0') + 10 * u32::from(*b - b'0') + u32::from(*c - b'0'))
+        }
+        _ => None,
     }
 }

@@ -19,7 +19,7 @@ use Rattle.spec_world.specs.declared.world.World.{World}
 use Rattle.spec_tree.specs.Boards.{Scope, Standing, children_scope, children_scope_number, in_order, main_scope, namings, namings_at, owner, slot_in, slots, standing_all, standing_from, standing_step}
 use Rattle.base_tables.specs.SlotTables.{SlotTable, scope_of, slot_table}
 use Rattle.spec_tree.specs.BuiltIns.{named_kinds}
-use Rattle.spec_tree.specs.Terms.{depth_of, node_count, own_scopes, scope_count, times_of, work_of}
+use Rattle.spec_tree.specs.Terms.{depth_of, node_count, once_more, own_scopes, scope_count, times_of, work_of}
 use Rattle.spec_tree.specs.Trees.{GuardsFit, IsValid, Node, NodeFits, TextsFit, nodes_of, nodes_step}
 use Rattle.spec_world.specs.Worlds.{IsValidWorld}
 use Rattle.spec_plan.specs.declared.part.Part.{Part}
@@ -91,6 +91,13 @@ one_time (Sequence row) = refl
 one_time Fallback = refl
 one_time (Condition row) = refl
 one_time (Action row) = refl
+
+none_more : (part : Part) (works : List ℕ) → once_more (kind_of part) works ≡ 0
+none_more Goals works = refl
+none_more (Sequence row) works = refl
+none_more Fallback works = refl
+none_more (Condition row) works = refl
+none_more (Action row) works = refl
 
 no_scope : (part : Part) → own_scopes (kind_of part) ≡ 0
 no_scope Goals = refl
@@ -181,8 +188,10 @@ module _ (world : World) (valid : IsValidWorld world) where
 
   work_at : (part : Part) (below : Forest) → work_of (roll-Term (term_at part below)) ≡ 1 + sum (map work_of (terms_of rows below))
   work_at part below =
-      fold-roll-Term ℕ (λ node. 1 + times_of node.kind node.ports * sum node.children) (term_at part below)
-      ∙ ap (λ (n : ℕ). 1 + n * sum (map work_of (terms_of rows below))) (one_time part) ∙ omega arith
+      let works : List ℕ = map work_of (terms_of rows below) in
+      fold-roll-Term ℕ (λ node. 1 + (times_of node.kind node.ports * sum node.children + once_more node.kind node.children)) (term_at part below)
+      ∙ ap (λ (n : ℕ). 1 + (n * sum works + once_more (kind_of part) works)) (one_time part)
+      ∙ ap (λ (n : ℕ). 1 + (1 * sum works + n)) (none_more part works) ∙ omega arith
 
   pub works : (f : Forest) → sum (map work_of (terms_of rows f)) ≡ size f
   works Empty = refl

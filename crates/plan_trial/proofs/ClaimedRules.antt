@@ -3,8 +3,11 @@ use Rattle.std.proofs.Common.{ℕ, zero, suc, ◌+◌, ◌-◌, Bool, true, fals
 use Rattle.std.proofs.lemmas.Bool.{cond_both}
 use Rattle.spec_run.specs.declared.memory.Counts.{Counts}
 use Rattle.spec_run.specs.declared.memory.Memo.{Memo}
-use Rattle.spec_run.specs.declared.memory.Memo.TheVariants.{Nothing, Index, Chosen, Finished, Counts as Counted, Turns as Turned}
+use Rattle.spec_run.specs.declared.memory.Memo.TheVariants.{Nothing, Index, Chosen, Finished, Counts as Counted, Turns as Turned, Recoveries as Recovering, Rotation as Rotating, Pace as Paced}
 use Rattle.spec_run.specs.declared.memory.Memory.{Memory}
+use Rattle.spec_run.specs.declared.memory.Pace.{Pace}
+use Rattle.spec_run.specs.declared.memory.Recoveries.{Recoveries}
+use Rattle.spec_run.specs.declared.memory.Rotation.{Rotation}
 use Rattle.spec_run.specs.declared.memory.Turns.{Turns}
 use Rattle.spec_run.specs.declared.moves.Span.{Span}
 use Rattle.spec_run.specs.declared.moves.Span.TheVariants as span
@@ -13,13 +16,17 @@ use Rattle.spec_run.specs.declared.status.Answer.TheVariants as answer
 use Rattle.spec_run.specs.declared.status.RoundEnd.{RoundEnd}
 use Rattle.spec_run.specs.declared.status.RoundEnd.TheVariants.{AtChild, AfterLast}
 use Rattle.spec_tree.specs.declared.term.Kind.{Kind}
-use Rattle.spec_tree.specs.declared.term.Kind.TheVariants.{Sequence, SequenceWithMemory, ReactiveSequence, Fallback, ReactiveFallback, Parallel, Switch, IfThenElse, WhileDoElse, Inverter, ForceSuccess, ForceFailure, KeepRunningUntilFailure, Retry, Repeat, Timeout, Delay, RunOnce, SubTree}
+use Rattle.spec_tree.specs.declared.term.Kind.TheVariants.{Sequence, SequenceWithMemory, ReactiveSequence, Fallback, ReactiveFallback, Parallel, Switch, IfThenElse, WhileDoElse, RecoveryNode, PipelineSequence, RoundRobin, Inverter, ForceSuccess, ForceFailure, KeepRunningUntilFailure, Retry, Repeat, Timeout, Delay, RunOnce, RateController, SubTree}
 use Rattle.spec_run.specs.Done.{Done, State}
 use Rattle.spec_run.specs.Rules.Answers.{is_seen, pass_on, same_answer}
 use Rattle.spec_run.specs.Rules.Choices.{chosen_branch, chosen_of, if_then_else, if_then_else_after, only_branch, switch, while_do_else_after}
 use Rattle.spec_run.specs.Rules.Decorators.{as_it_is, child_as, forced, inverted, is_late, keep_running_after, mark_of, run_once, run_once_after, since_of}
 use Rattle.spec_run.specs.Rules.Kinds.{rule}
 use Rattle.spec_run.specs.Rules.Parallels.{counted, counts_of, failure_holds, parallel, parallel_after, success_holds}
+use Rattle.spec_run.specs.Rules.Pipelines.{pipeline, pipeline_after, pipeline_end}
+use Rattle.spec_run.specs.Rules.Rates.{is_due, pace_of, rate_after, rate_controller}
+use Rattle.spec_run.specs.Rules.Recoveries.{attempt, attempt_after, attempt_on, one_recovered, recover, recoveries_left, recoveries_of, recovery_after, recovery_node}
+use Rattle.spec_run.specs.Rules.RoundRobins.{next_of, passed_by, robin_after, robin_on, rotation_at, rotation_of, round_robin}
 use Rattle.spec_run.specs.Rules.Sequences.{index_of, passes, reactive_end, round, round_after, seen_of, sequence_end, with_memory_end}
 use Rattle.spec_run.specs.Rules.Turns.{limit_of, one_more, turn_after, turn_again, turns, turns_of, turns_on}
 use Rattle.spec_run.specs.Steps.{Child, Rule, child_at, is_completed, keep, over, reset, resets, visit, visit_or_pass}
@@ -185,6 +192,92 @@ module _ (claim : Claim) (ks : List Child) (each : (place : ℕ) → ChildMeets 
     turns_meets : (t : Turns) → RuleMeets (turns again t)
     turns_meets t = visit_meets 0 (λ a. turn_after again t (turns_on again (limit_of t.limit) t) a) (λ a. turn_meets t (turns_on again (limit_of t.limit) t) a (on_meets (limit_of t.limit) t))
 
+  -- ---- RecoveryNode
+
+  attempt_after_meets : (r : Recoveries) (failed : Rule) (a : Answer) → RuleMeets failed → RuleMeets (attempt_after r failed a)
+  attempt_after_meets r failed answer.Failure rest = rest
+  attempt_after_meets r failed answer.Running rest = pass_on_meets (Recovering (record r { recovers = false })) answer.Running
+  attempt_after_meets r failed answer.Success rest = over_meets answer.Success
+  attempt_after_meets r failed answer.Skipped rest = over_meets answer.Skipped
+
+  attempt_meets : (r : Recoveries) (failed : Rule) → RuleMeets failed → RuleMeets (attempt r failed)
+  attempt_meets r failed rest = visit_meets 0 (λ a. attempt_after r failed a) (λ a. attempt_after_meets r failed a rest)
+
+  recovery_after_meets : (r : Recoveries) (again : Rule) (a : Answer) → RuleMeets again → RuleMeets (recovery_after r again a)
+  recovery_after_meets r again answer.Success rest = reset_meets (span.One 1) again rest
+  recovery_after_meets r again answer.Running rest = keep_meets answer.Running (Recovering (record r { recovers = true }))
+  recovery_after_meets r again answer.Failure rest = over_meets answer.Failure
+  recovery_after_meets r again answer.Skipped rest = over_meets answer.Failure
+
+  recover_meets : (left : ℕ) (r : Recoveries) → RuleMeets (recover left r)
+  recover_meets zero r = over_meets answer.Failure
+  recover_meets (suc left) r =
+      let again : Rule = attempt (one_recovered r) (recover left (one_recovered r)) in
+      reset_meets (span.One 0) (visit 1 (λ a. recovery_after r again a)) (visit_meets 1 (λ a. recovery_after r again a)
+      (λ a. recovery_after_meets r again a (attempt_meets (one_recovered r) (recover left (one_recovered r)) (recover_meets left (one_recovered r)))))
+
+  attempt_on_meets : (r : Recoveries) → RuleMeets (attempt_on r)
+  attempt_on_meets r = attempt_meets r (recover (recoveries_left r) r) (recover_meets (recoveries_left r) r)
+
+  recovery_meets : (recovers : Bool) (r : Recoveries) → RuleMeets (recovery_node recovers r)
+  recovery_meets false r = attempt_on_meets r
+  recovery_meets true r = visit_meets 1 (λ a. recovery_after r (attempt_on (one_recovered r)) a) (λ a. recovery_after_meets r (attempt_on (one_recovered r)) a (attempt_on_meets (one_recovered r)))
+
+  -- ---- PipelineSequence
+
+  pipeline_end_meets : (seen : Bool) → RuleMeets (pipeline_end seen)
+  pipeline_end_meets true = over_meets answer.Success
+  pipeline_end_meets false = over_meets answer.Skipped
+
+  pipeline_after_meets : (farthest place : ℕ) (seen : Bool) (others : Bool → Rule) (a : Answer) → ((b : Bool) → RuleMeets (others b)) → RuleMeets (pipeline_after farthest place seen others a)
+  pipeline_after_meets farthest place seen others answer.Running rest = either_meets (nat_lt place farthest) (others true) (keep answer.Running (Index place true)) (rest true) (keep_meets answer.Running (Index place true))
+  pipeline_after_meets farthest place seen others answer.Success rest = rest true
+  pipeline_after_meets farthest place seen others answer.Failure rest = over_meets answer.Failure
+  pipeline_after_meets farthest place seen others answer.Skipped rest = rest seen
+
+  pipeline_meets : (farthest left place : ℕ) (seen : Bool) → RuleMeets (pipeline farthest left place seen)
+  pipeline_meets farthest zero place seen = pipeline_end_meets seen
+  pipeline_meets farthest (suc left) place seen =
+      let go : Bool → Rule = λ b. pipeline farthest left (place + 1) b in
+      visit_meets place (λ a. pipeline_after farthest place seen go a) (λ a. pipeline_after_meets farthest place seen go a (λ b. pipeline_meets farthest left (place + 1) b))
+
+  -- ---- RoundRobin
+
+  robin_after_meets : (n : ℕ) (r : Rotation) (others : Rule) (a : Answer) → RuleMeets others → RuleMeets (robin_after n r others a)
+  robin_after_meets n r others answer.Running rest = keep_meets answer.Running (Rotating r)
+  robin_after_meets n r others answer.Success rest =
+      let next : Memo = Rotating (rotation_at (next_of n r.at)) in
+      reset_meets span.All (keep answer.Success next) (keep_meets answer.Success next)
+  robin_after_meets n r others answer.Failure rest = rest
+  robin_after_meets n r others answer.Skipped rest = rest
+
+  robin_on_meets : (n left : ℕ) (r : Rotation) (a : Answer) → RuleMeets (robin_on n left r a)
+  robin_on_meets n zero r a = over_meets (cond (nat_eq (passed_by n a r).skipped n) answer.Skipped answer.Failure)
+  robin_on_meets n (suc left) r a =
+      let next : Rotation = passed_by n a r in
+      let go : Answer → Rule = λ b. robin_after n next (robin_on n left next b) b in
+      reset_meets (span.One r.at) (visit next.at go) (visit_meets next.at go (λ b. robin_after_meets n next (robin_on n left next b) b (robin_on_meets n left next b)))
+
+  robin_meets : (n : ℕ) (r : Rotation) → RuleMeets (round_robin n r)
+  robin_meets n r =
+      let go : Answer → Rule = λ a. robin_after n r (robin_on n (n - (r.passed + 1)) r a) a in
+      visit_meets r.at go (λ a. robin_after_meets n r (robin_on n (n - (r.passed + 1)) r a) a (robin_on_meets n (n - (r.passed + 1)) r a))
+
+  -- ---- RateController
+
+  rate_after_meets : (p : Pace) (now : ℕ) (a : Answer) → RuleMeets (rate_after p now a)
+  rate_after_meets p now answer.Running = keep_meets answer.Running (Paced (record p { due = true }))
+  rate_after_meets p now answer.Success =
+      let kept : Memo = Paced (record p { first = now; due = false }) in
+      reset_meets span.All (keep answer.Success kept) (keep_meets answer.Success kept)
+  rate_after_meets p now answer.Failure =
+      let kept : Memo = Paced (record p { due = false }) in
+      reset_meets span.All (keep answer.Failure kept) (keep_meets answer.Failure kept)
+  rate_after_meets p now answer.Skipped = over_meets answer.Skipped
+
+  rate_meets : (p : Pace) (now : ℕ) → RuleMeets (rate_controller p now)
+  rate_meets p now = either_meets (is_due p now) (visit 0 (λ a. rate_after p now a)) (keep answer.Running (Paced p)) (visit_meets 0 (λ a. rate_after p now a) (rate_after_meets p now)) (keep_meets answer.Running (Paced p))
+
   -- ---- Every kind
 
   pub rule_meets : (kind : Kind) (n : ℕ) (memo : Memo) (picked now : ℕ) → RuleMeets (rule kind n memo picked now)
@@ -208,4 +301,8 @@ module _ (claim : Claim) (ks : List Child) (each : (place : ℕ) → ChildMeets 
   rule_meets Delay n memo picked now =
       either_meets (nat_lt (now - (since_of memo).first) (since_of memo).length) (keep answer.Running memo) (child_as as_it_is memo) (keep_meets answer.Running memo) (child_meets as_it_is memo)
   rule_meets RunOnce n memo picked now = run_once_meets (mark_of memo) picked
+  rule_meets RecoveryNode n memo picked now = recovery_meets (recoveries_of memo).recovers (recoveries_of memo)
+  rule_meets PipelineSequence n memo picked now = pipeline_meets (index_of memo) n 0 false
+  rule_meets RoundRobin n memo picked now = robin_meets n (rotation_of memo)
+  rule_meets RateController n memo picked now = rate_meets (pace_of memo) now
   rule_meets _ n memo picked now = over_meets answer.Skipped

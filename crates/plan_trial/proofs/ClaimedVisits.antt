@@ -22,7 +22,7 @@ use Rattle.spec_run.specs.Ports.{new_memo, picked}
 use Rattle.spec_run.specs.NodeScripts.{answers_where, goes_on, goes_on_by, guard, guards_answer, posts, script_holds, script_if_there, script_run, truth_of}
 use Rattle.spec_run.specs.Sites.{Meaning, Site, View, children_of, remembered, view_below}
 use Rattle.spec_run.specs.Steps.{Given, child_at, resets}
-use Rattle.spec_run.specs.Visit.{begun, change, cleared, continued, ended, guarded, halt, halt_calls, halt_notes, halt_state, halted, kind_rule, meaning_of_node, node_rule, or_bad_port, reset_by, ruled, site_of, started, starts, status_of, visit_by}
+use Rattle.spec_run.specs.Visit.{begun, change, cleared, continued, ended, guarded, halt, halt_calls, halt_notes, halt_state, halted, kind_rule, meaning_of_node, node_rule, or_bad_port, remembers, reset_by, ruled, site_of, started, starts, status_of, visit_by}
 use Rattle.plan_trial.proofs.Claims.{ChildMeets, Claim, EndMeets, Meets, TermMeets, children_meet, done_meets, ends_meet, follow_meets, following_meets, resets_meet}
 use Rattle.plan_trial.proofs.ClaimedRules.{rule_meets}
 
@@ -189,7 +189,7 @@ module _ (claim : Claim) where
 
     started_meets : (m : Memory) (s : State) → claim.state s → Meets claim (started site m s)
     started_meets m s fits =
-        let made : Result Memo PortId = new_memo site.node.kind site (out-Memory m).memo s in
+        let made : Result Memo PortId = new_memo site.node.kind site (remembers (out-Memory m).status (out-Memory m).memo) s in
         let d : Done Memo (List Memory) = ends (or_bad_port site.uid made) (out-Memory m).children s in
         let go : Memo → List Memory → State → Done Answer Memory = λ memo ms s1. ruled site status.Running memo ms s1 in
         following_meets claim (change site.uid (out-Memory m).status status.Running) [] (follow d (λ ms. remembered status.Running (out-Memory m).memo ms) go) (change_meets site.uid (out-Memory m).status status.Running)
@@ -200,7 +200,7 @@ module _ (claim : Claim) where
     begun_meets false m s fits = ruled_meets (out-Memory m).status (out-Memory m).memo (out-Memory m).children s fits
 
     guarded_meets : (o : Option Answer) (m : Memory) (s : State) → claim.state s → Meets claim (guarded o site m s)
-    guarded_meets (Some a) m s fits = ended_meets (out-Memory m).status (record { answer = a; memo = (out-Memory m).memo }) (out-Memory m).children s fits
+    guarded_meets (Some a) m s fits = ended_meets (out-Memory m).status (record { answer = a; memo = remembers (out-Memory m).status (out-Memory m).memo }) (out-Memory m).children s fits
     guarded_meets None m s fits = begun_meets (starts site.node.kind (out-Memory m).memo) m s fits
 
     rests_meet : (m : Memory) (s : State) → claim.state s → Meets claim (follow (guards_answer site s) (λ _. m) (λ a _ s1. guarded a site m s1))

@@ -1,23 +1,25 @@
 -- The memos and the children with which the rule of a node with children can begin: those of its shape while it is
 -- RUNNING, and those of its start.
-use Rattle.std.specs.Prelude.{ℕ, ◌+◌, ◌≡◌, List, codes, slice_get, Bool, true, false, Option, Some, None}
+use Rattle.std.specs.Prelude.{ℕ, ◌+◌, ◌≤◌, ◌≡◌, List, length, codes, slice_get, false, Option, Some, None}
 use Rattle.spec_run.specs.declared.memory.Memo.{Memo}
-use Rattle.spec_run.specs.declared.memory.Memo.TheVariants.{Nothing, Index, Chosen, Finished, Counts as Counted, Turns as Turned, Since as Begun}
+use Rattle.spec_run.specs.declared.memory.Memo.TheVariants.{Nothing, Index, Chosen, Finished, Counts as Counted, Turns as Turned, Since as Begun, Recoveries as Recovering, Rotation as Rotating, Pace as Paced}
 use Rattle.spec_run.specs.declared.memory.Memory.{Memory}
 use Rattle.spec_run.specs.declared.status.Status.{Status}
 use Rattle.spec_tree.specs.declared.term.Kind.{Kind}
-use Rattle.spec_tree.specs.declared.term.Kind.TheVariants.{Sequence, SequenceWithMemory, ReactiveSequence, Fallback, ReactiveFallback, Parallel, Switch, IfThenElse, WhileDoElse, Inverter, ForceSuccess, ForceFailure, KeepRunningUntilFailure, Retry, Repeat, Timeout, Delay, RunOnce, SubTree, AlwaysSuccess, AlwaysFailure, ScriptNode, ScriptCondition, Leaf}
+use Rattle.spec_tree.specs.declared.term.Kind.TheVariants.{Sequence, SequenceWithMemory, ReactiveSequence, Fallback, ReactiveFallback, Parallel, Switch, IfThenElse, WhileDoElse, RecoveryNode, PipelineSequence, RoundRobin, Inverter, ForceSuccess, ForceFailure, KeepRunningUntilFailure, Retry, Repeat, Timeout, Delay, RunOnce, RateController, SubTree}
 use Rattle.spec_tree.specs.declared.term.Port.{Port}
 use Rattle.spec_tree.specs.declared.term.Term.{Term-F}
 use Rattle.spec_tree.specs.declared.term.Term.TheFolds.{map-Term}
 use Rattle.spec_world.specs.declared.world.Row.{Row}
 use Rattle.spec_run.specs.Done.{Done, State}
-use Rattle.base_tables.specs.Shapes.{AllIdle, BranchRuns, IdleFrom, IsBegun, IsCounted, IsMark, IsTurned, NoneCompleted, OneRuns, Shape}
+use Rattle.base_tables.specs.Moves.{place_at_hand}
+use Rattle.base_tables.specs.Shapes.{AllIdle, BranchRuns, IdleFrom, IsBegun, IsCounted, IsMark, IsPaced, IsRecovering, IsRotating, IsTurned, NoneCompleted, OneRuns, Shape}
 use Rattle.spec_run.specs.Sites.{Meaning, Site, View}
 use Rattle.base_tables.specs.Sound.{Leaves, statuses}
 use Rattle.spec_run.specs.Steps.{Given}
 use Rattle.spec_run.specs.Visit.{site_of, status_of}
 use Rattle.run_laws.proofs.Children.{Family, SoundAll, size_all}
+use Rattle.run_laws.proofs.Choices.{OthersIdle}
 use Rattle.run_laws.proofs.Rounds.{StartsAt}
 
 abbrev pub Begins : Kind → List Port → ℕ → Memo → List Status → Type 0
@@ -32,6 +34,9 @@ Begins (Switch cases) ports moment (Chosen (Some place)) ss = OneRuns place ss
 Begins IfThenElse ports moment (Chosen None) ss = IdleFrom 1 ss
 Begins IfThenElse ports moment (Chosen (Some place)) ss = BranchRuns place ss
 Begins WhileDoElse ports moment Nothing ss = NoneCompleted ss
+Begins RecoveryNode ports moment (Recovering r) ss = IsRecovering r ports × OthersIdle (place_at_hand r) ss
+Begins PipelineSequence ports moment (Index at seen) ss = IdleFrom (at + 1) ss
+Begins RoundRobin ports moment (Rotating r) ss = (1 ≤ length ss → IsRotating r (length ss)) × OthersIdle r.at ss
 Begins SubTree ports moment Nothing ss = NoneCompleted ss
 Begins Inverter ports moment Nothing ss = NoneCompleted ss
 Begins ForceSuccess ports moment Nothing ss = NoneCompleted ss
@@ -43,6 +48,7 @@ Begins Timeout ports moment (Begun since) ss = IsBegun since moment ports (codes
 Begins Delay ports moment (Begun since) ss = IsBegun since moment ports (codes "delay_msec") × NoneCompleted ss
 Begins RunOnce ports moment (Finished None) ss = NoneCompleted ss
 Begins RunOnce ports moment (Finished (Some a)) ss = IsMark a × AllIdle ss
+Begins RateController ports moment (Paced p) ss = IsPaced p moment ports × OthersIdle 0 ss × (p.due ≡ false → AllIdle ss)
 Begins kind ports moment memo ss = ⊥
 
 module _ (F : Family) (node : Term-F F.Child) (view : View) (uid : ℕ) where

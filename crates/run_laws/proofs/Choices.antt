@@ -22,8 +22,15 @@ abbrev pub OthersIdle : ℕ → List Status → Type 0
 OthersIdle place ss = (k : ℕ) → (k ≡ place → ⊥) → status_at ss k ≡ status.Idle
 
 -- the visited child is the only RUNNING one where it answers RUNNING
-runs_alone : (place : ℕ) (a : Answer) (ss ss1 : List Status) → OthersIdle place ss → Changed place (status_of a) ss ss1 → a ≡ answer.Running → OneRuns place ss1
+pub runs_alone : (place : ℕ) (a : Answer) (ss ss1 : List Status) → OthersIdle place ss → Changed place (status_of a) ss ss1 → a ≡ answer.Running → OneRuns place ss1
 runs_alone place a ss ss1 idle changed is = record { runs = changed.here ∙ ap status_of is; others = λ k other. others changed k other ∙ idle k other }
+
+-- all children are IDLE after a reset of the only one that was not
+pub released : (kept : ℕ) (ss ss1 : List Status) → OthersIdle kept ss → Rested (span.One kept) ss ss1 → AllIdle ss1
+released kept ss ss1 idle rested = λ k from. ⊎_elim
+    (λ same. rested.away k (eq-eqb k kept same))
+    (λ other. rested.stays k (ne_eqb k kept other) ∙ idle k other)
+    (cases_eq k kept)
 
 -- ---- Switch
 
@@ -33,12 +40,6 @@ module _ (n : Node) (cases : ℕ) where
       visits n (Switch cases) place (λ a. pass_on (Chosen (Some place)) a) ss
       (λ a ss1 changed. passes_on n (Switch cases) (Chosen (Some place)) a ss1 (runs_alone place a ss ss1 idle changed))
 
-  released : (kept : ℕ) (ss ss1 : List Status) → OneRuns kept ss → Rested (span.One kept) ss ss1 → AllIdle ss1
-  released kept ss ss1 runs rested = λ k from. ⊎_elim
-      (λ same. rested.away k (eq-eqb k kept same))
-      (λ other. rested.stays k (ne_eqb k kept other) ∙ runs.others k other)
-      (cases_eq k kept)
-
   pub switch_starts : (picked : ℕ) (ss : List Status) → AllIdle ss → Goes n (Switch cases) ss (switch None picked)
   switch_starts picked ss idle = chosen_goes picked ss (λ k other. idle k (omega arith))
 
@@ -47,7 +48,7 @@ module _ (n : Node) (cases : ℕ) where
       cond_both (nat_eq kept picked) (chosen_branch picked) (reset (span.One kept) (chosen_branch picked)) (λ rule. Goes n (Switch cases) ss rule)
       (λ same. chosen_goes picked ss (subst (λ (k : ℕ). OthersIdle k ss) (eqb-true kept picked same) runs.others))
       (λ _. resets_first n (Switch cases) (span.One kept) (chosen_branch picked) ss
-      (λ ss1 rested. chosen_goes picked ss1 (λ k other. released kept ss ss1 runs rested k (omega arith))))
+      (λ ss1 rested. chosen_goes picked ss1 (λ k other. released kept ss ss1 runs.others rested k (omega arith))))
 
 -- ---- IfThenElse
 

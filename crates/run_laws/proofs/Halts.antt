@@ -38,9 +38,9 @@ no_mark a ports row moment ss Sequence shape = absurd shape
 no_mark a ports row moment ss _ shape = absurd shape
 
 -- above IDLE children, a memo after a halt is one of a node that is not RUNNING
-cleared_rests : (ports : List Port) (row : Option Row) (moment : ℕ) (kind : Kind) (memo : Memo) (before ss : List Status) → RunningShape kind ports row moment memo before → AllIdle ss → RestingShape (cleared memo) kind ss
-cleared_rests ports row moment kind (Finished (Some a)) before ss shape idle = absurd (no_mark a ports row moment before kind shape)
-cleared_rests ports row moment kind _ before ss shape idle = idle
+cleared_rests : (ports : List Port) (row : Option Row) (moment later : ℕ) (kind : Kind) (memo : Memo) (before ss : List Status) → RunningShape kind ports row moment memo before → AllIdle ss → RestingShape ports later (cleared memo) kind ss
+cleared_rests ports row moment later kind (Finished (Some a)) before ss shape idle = absurd (no_mark a ports row moment before kind shape)
+cleared_rests ports row moment later kind _ before ss shape idle = idle
 
 -- after a halt the instance of the node is not held
 halt_frees : (kind : Kind) (uid : ℕ) (s : State) → held_at s uid ≡ Some (is_held status.Running kind) → held_at (halt_state kind uid s) uid ≡ Some false
@@ -75,7 +75,7 @@ module _ (F : Family) (node : Term-F F.Child) (view : View) (uid : ℕ) where
   beside fault ms s s1 all w = all_move F view.rows node.children fault (uid + 1) ms s s1 all (λ p a b. held_same s s1 p (w.above p a)) (omega (arith, w.moment))
 
   -- the memory that a halt makes
-  rests_idle : (memo : Memo) (ms : List Memory) (s : State) → RestingShape memo node.kind (statuses ms) → held_at s uid ≡ Some false → All None ms s → Holds None (remembered status.Idle memo ms) s
+  rests_idle : (memo : Memo) (ms : List Memory) (s : State) → RestingShape node.ports s.moment memo node.kind (statuses ms) → held_at s uid ≡ Some false → All None ms s → Holds None (remembered status.Idle memo ms) s
   rests_idle memo ms s shape free all = as_kept F node view uid None status.Idle memo ms s (record { shape = shape; held = free }, all)
 
   is_halted : (memo : Memo) (ms : List Memory) → AllIdle (statuses ms) → IsHalted (remembered status.Idle memo ms)
@@ -83,7 +83,7 @@ module _ (F : Family) (node : Term-F F.Child) (view : View) (uid : ℕ) where
       (status_kept status.Idle memo ms, subst (λ (x : Memory-F Memory). AllIdle (statuses x.children)) (sym (out-roll-Memory (record { status = status.Idle; memo = memo; children = ms }))) idle)
 
   -- the end of a halt, above children that are IDLE
-  halted_leaves : (memo : Memo) (ms : List Memory) (s : State) → RestingShape memo node.kind (statuses ms) → AllIdle (statuses ms) → held_at s uid ≡ Some (is_held status.Running node.kind) → All None ms s →
+  halted_leaves : (memo : Memo) (ms : List Memory) (s : State) → ((now : ℕ) → RestingShape node.ports now memo node.kind (statuses ms)) → AllIdle (statuses ms) → held_at s uid ≡ Some (is_held status.Running node.kind) → All None ms s →
       Leaves Holds (λ _ m1 s1. IsHalted m1) uid size s (halted here (remembered status.Idle memo ms) s)
   halted_leaves memo ms s shape idle held all =
       let m : Memory = remembered status.Idle memo ms in
@@ -94,7 +94,7 @@ module _ (F : Family) (node : Term-F F.Child) (view : View) (uid : ℕ) where
       follow_leaves {rules = λ _ _ s1. s1.instances ≡ freed.instances} {fits = λ _ _ s1. Unit {0}} {rules2 = Holds} {fits2 = λ _ m1 s1. IsHalted m1}
       d (λ _. m) (λ _ _ s1. done tt m s1) uid size uid 1 freed (omega arith) (omega arith) (script_if_there_leaves here node.guards.on_halted freed)
       (λ _ _ same w. record {
-        sound = rests_idle memo ms d.state shape (ap (λ x. option_map (λ (i : Instance). is_some i.since) (slice_get x uid)) same ∙ halt_frees node.kind uid s held) (beside None ms s d.state all (within_both w0 w (omega arith) (omega arith) (omega arith) (omega arith)));
+        sound = rests_idle memo ms d.state (shape d.state.moment) (ap (λ x. option_map (λ (i : Instance). is_some i.since) (slice_get x uid)) same ∙ halt_frees node.kind uid s held) (beside None ms s d.state all (within_both w0 w (omega arith) (omega arith) (omega arith) (omega arith)));
         within = within_same uid size d.state;
         ends = is_halted memo ms idle;
       })
@@ -114,7 +114,7 @@ module _ (F : Family) (node : Term-F F.Child) (view : View) (uid : ℕ) where
       (span_leaves F (view_below here) node.children (uid + 1) span.All ms s all)
       (λ _ rested all1 w.
       let idle : AllIdle (statuses d.memory) = λ k from. rested.away k refl in
-      halted_leaves (cleared memo) d.memory d.state (cleared_rests node.ports (row_of view.rows node.id) s.moment node.kind memo (statuses ms) (statuses d.memory) own.shape idle) idle
+      halted_leaves (cleared memo) d.memory d.state (λ now. cleared_rests node.ports (row_of view.rows node.id) s.moment now node.kind memo (statuses ms) (statuses d.memory) own.shape idle) idle
       (ap (λ x. option_map (λ (i : Instance). is_some i.since) x) (w.below uid (omega arith)) ∙ own.held) all1)
       (λ f low high all1 w. on_path F node view uid f status.Running memo d.memory d.state (omega (arith, low)) (omega (arith, high)) all1)
 
@@ -128,7 +128,7 @@ module _ (F : Family) (node : Term-F F.Child) (view : View) (uid : ℕ) where
       (λ _ halted own w. halted.0)
 
   -- a node that is not RUNNING becomes IDLE
-  rest_leaves : (memo : Memo) (ms : List Memory) (s : State) → RestingShape memo node.kind (statuses ms) → held_at s uid ≡ Some false → All None ms s →
+  rest_leaves : (memo : Memo) (ms : List Memory) (s : State) → RestingShape node.ports s.moment memo node.kind (statuses ms) → held_at s uid ≡ Some false → All None ms s →
       let d : Done (Unit {0}) Memory = done tt (remembered status.Idle memo ms) s in
       Leaves Holds (λ _ m1 s1. status_in m1 ≡ status.Idle) uid size s d
   rest_leaves memo ms s shape free all = record {

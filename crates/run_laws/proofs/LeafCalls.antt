@@ -98,9 +98,9 @@ since_dated reply.Failure start now since begun before = λ t e. cc
 idle_of : (st : Status) (ports : List Port) (row : Option Row) (moment : ℕ) (memo : Memo) (ss : List Status) → Shape st Leaf ports row moment memo ss → AllIdle ss
 idle_of status.Running ports row moment Nothing ss shape = shape.1
 idle_of status.Running ports row moment _ ss shape = absurd shape
-idle_of status.Idle ports row moment memo ss shape = rests_idle memo Leaf ss refl shape
-idle_of status.Success ports row moment memo ss shape = rests_idle memo Leaf ss refl shape
-idle_of status.Failure ports row moment memo ss shape = rests_idle memo Leaf ss refl shape
+idle_of status.Idle ports row moment memo ss shape = rests_idle ports moment memo Leaf ss refl shape
+idle_of status.Success ports row moment memo ss shape = rests_idle ports moment memo Leaf ss refl shape
+idle_of status.Failure ports row moment memo ss shape = rests_idle ports moment memo Leaf ss refl shape
 
 -- a leaf without a row is never RUNNING
 rests_without_row : (st : Status) (ports : List Port) (moment : ℕ) (memo : Memo) (ss : List Status) → Shape st Leaf ports None moment memo ss → is_held st Leaf ≡ false

@@ -109,9 +109,9 @@ module _ (F : Family) (node : Term-F F.Child) (view : View) (uid : ℕ) where
     module _ (kind : Kind) (never : RunningShape kind node.ports row s.moment memo (statuses ms) → ⊥) (whole : rests_whole kind ≡ true) where
       plain_by : (old : Status) → Shape old kind node.ports row s.moment memo (statuses ms) → held_at s uid ≡ Some (is_held old kind) → Plain ms s
       plain_by status.Running shape held = absurd (never shape)
-      plain_by status.Idle shape held = record { idle = rests_idle memo kind (statuses ms) whole shape; free = held }
-      plain_by status.Success shape held = record { idle = rests_idle memo kind (statuses ms) whole shape; free = held }
-      plain_by status.Failure shape held = record { idle = rests_idle memo kind (statuses ms) whole shape; free = held }
+      plain_by status.Idle shape held = record { idle = rests_idle node.ports s.moment memo kind (statuses ms) whole shape; free = held }
+      plain_by status.Success shape held = record { idle = rests_idle node.ports s.moment memo kind (statuses ms) whole shape; free = held }
+      plain_by status.Failure shape held = record { idle = rests_idle node.ports s.moment memo kind (statuses ms) whole shape; free = held }
 
       is_plain : has_rule kind ≡ false → Ready kind st memo ms s → Plain ms s
       is_plain ruled ready = plain_by st (ready.shape ruled) ready.held

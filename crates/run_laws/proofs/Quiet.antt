@@ -2,11 +2,12 @@
 use Rattle.std.proofs.Common.{◌≡◌, ℕ, suc, ◌+◌, ◌≤◌, List, [], ◌∷◌, false, Some, None, sym, ap, subst, ◌∙◌, arith, ⊎_elim}
 use Rattle.std.proofs.lemmas.Bool.{cases_eq, cases_lt}
 use Rattle.spec_run.specs.declared.memory.Memo.{Memo}
-use Rattle.spec_run.specs.declared.memory.Memo.TheVariants.{Nothing, Index, Finished}
+use Rattle.spec_run.specs.declared.memory.Memo.TheVariants.{Nothing, Index, Finished, Rotation as Rotating, Pace as Paced}
 use Rattle.spec_run.specs.declared.memory.Memory.{Memory, out-Memory}
 use Rattle.spec_run.specs.declared.status.Status.{Status}
 use Rattle.spec_tree.specs.declared.term.Kind.{Kind}
-use Rattle.spec_tree.specs.declared.term.Kind.TheVariants.{RunOnce, SequenceWithMemory}
+use Rattle.spec_tree.specs.declared.term.Kind.TheVariants.{RateController, RoundRobin, RunOnce, SequenceWithMemory}
+use Rattle.spec_tree.specs.declared.term.Port.{Port}
 use Rattle.spec_tree.specs.declared.term.Term.{Term, Term-F}
 use Rattle.spec_world.specs.declared.world.Row.{Row}
 use Rattle.spec_run.specs.Done.{State}
@@ -31,11 +32,13 @@ NoneRuns ss = (k : ℕ) → is_running (status_at ss k) ≡ false
 idle_rests : (first : ℕ) (ss : List Status) → NoneRunsBefore first ss → IdleFrom first ss → NoneRuns ss
 idle_rests first ss before following = λ k. ⊎_elim (λ low. before k low) (λ high. ap is_running (following k high)) (cases_lt k first)
 
-none_runs : (memo : Memo) (kind : Kind) (ss : List Status) → RestingShape memo kind ss → NoneRuns ss
-none_runs Nothing kind ss shape = λ k. ap is_running (shape k (omega arith))
-none_runs (Index at false) SequenceWithMemory ss shape = idle_rests at ss shape.1 shape.2
-none_runs (Finished (Some a)) RunOnce ss shape = λ k. ap is_running (shape.1 k (omega arith))
-none_runs _ kind ss shape = absurd shape
+none_runs : (ports : List Port) (moment : ℕ) (memo : Memo) (kind : Kind) (ss : List Status) → RestingShape ports moment memo kind ss → NoneRuns ss
+none_runs ports moment Nothing kind ss shape = λ k. ap is_running (shape k (omega arith))
+none_runs ports moment (Index at false) SequenceWithMemory ss shape = idle_rests at ss shape.1 shape.2
+none_runs ports moment (Finished (Some a)) RunOnce ss shape = λ k. ap is_running (shape.1 k (omega arith))
+none_runs ports moment (Rotating r) RoundRobin ss shape = λ k. ap is_running (shape.2 k (omega arith))
+none_runs ports moment (Paced p) RateController ss shape = λ k. ap is_running (shape.2 k (omega arith))
+none_runs ports moment _ kind ss shape = absurd shape
 
 -- ---- Every term
 
@@ -63,10 +66,10 @@ module _ {X : Type 0} (term : X → Term) (free : (c : X) → RestsFree (term c)
   node_free : (node : Term-F X) → RestsFree (above term node) (node_means term node) (states_of_node X term (λ c. Sound (term c)) node)
   node_free node = λ rows uid m s sound rests p low high.
       let own : NodeKeeps F node (only_rows rows) uid (status_in m) (out-Memory m).memo (out-Memory m).children s = sound.0 in
-      let shape : RestingShape (out-Memory m).memo node.kind (statuses (out-Memory m).children) = resting_shape (status_in m) node.kind node.ports _ s.moment (out-Memory m).memo (statuses (out-Memory m).children) rests own.shape in
+      let shape : RestingShape node.ports s.moment (out-Memory m).memo node.kind (statuses (out-Memory m).children) = resting_shape (status_in m) node.kind node.ports _ s.moment (out-Memory m).memo (statuses (out-Memory m).children) rests own.shape in
       ⊎_elim
       (λ here. subst (λ (x : ℕ). held_at s x ≡ Some false) (sym here) (own.held ∙ ap Some (rests_free (status_in m) node.kind rests)))
-      (λ other. all_free rows node.children (uid + 1) (out-Memory m).children s sound.1 (none_runs (out-Memory m).memo node.kind (statuses (out-Memory m).children) shape) p (following uid p other low) (omega (arith, high)))
+      (λ other. all_free rows node.children (uid + 1) (out-Memory m).children s sound.1 (none_runs node.ports s.moment (out-Memory m).memo node.kind (statuses (out-Memory m).children) shape) p (following uid p other low) (omega (arith, high)))
       (cases_eq p uid)
 
 pub rests_hold_nothing : (t : Term) → RestsFree t (meaning t) (Sound t)

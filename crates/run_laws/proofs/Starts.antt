@@ -2,7 +2,7 @@
 use Rattle.std.proofs.Common.{◌≡◌, ℕ, suc, ◌+◌, ◌≤◌, List, [], ◌∷◌, length, Bool, true, false, ◌&&◌, cond, count_by, pos, negsuc, nat_abs, int_le, Option, Some, None, IfOk, IfSome, refl, sym, ap, ◌∙◌, arith, ⊎_elim, leb, ltb, ◌-◌}
 use Rattle.std.proofs.lemmas.Bool.{and_parts, and_right, cond_both, leb-true, le-ltb, lt-leb, or_cases, or_from}
 use Rattle.std.proofs.lemmas.List.Sums.{sum_by-cons}
-use Rattle.std.specs.Prelude.{ℤ}
+use Rattle.std.specs.Prelude.{ℤ, codes}
 use Rattle.std.specs.Ordering.{int_eq}
 use Rattle.spec_script.specs.declared.value.Value.{Value}
 use Rattle.spec_script.specs.declared.value.Value.TheVariants.{Int, Text}
@@ -11,16 +11,17 @@ use Rattle.spec_tree.specs.declared.built_ins.Range.TheVariants as range
 use Rattle.spec_run.specs.declared.fault.PortId.{PortId}
 use Rattle.spec_run.specs.declared.memory.Counts.{Counts}
 use Rattle.spec_run.specs.declared.memory.Memo.{Memo}
-use Rattle.spec_run.specs.declared.memory.Memo.TheVariants.{Counts as Counted, Turns as Turned, Since as Begun}
+use Rattle.spec_run.specs.declared.memory.Memo.TheVariants.{Counts as Counted, Turns as Turned, Since as Begun, Recoveries as Recovering, Pace as Paced}
 use Rattle.spec_run.specs.declared.status.Status.{Status}
 use Rattle.spec_run.specs.declared.status.Status.TheVariants as status
 use Rattle.spec_tree.specs.declared.term.Port.{Port}
 use Rattle.spec_tree.specs.declared.term.PortValue.{PortValue}
 use Rattle.spec_tree.specs.declared.term.PortValue.TheVariants.{Lit, Key}
+use Rattle.spec_tree.specs.Boards.{port_of}
 use Rattle.spec_tree.specs.BuiltIns.{fits}
 use Rattle.spec_run.specs.Done.{State}
-use Rattle.spec_run.specs.Ports.{given_at, number_at, number_by, parallel_start, since_start, threshold, threshold_of, threshold_within, turns_start, value_by, within}
-use Rattle.base_tables.specs.Shapes.{AllIdle, IsBegun, IsCounted, IsGiven, IsGivenAt, IsTurned, TurnsGoOn, is_failure, is_success}
+use Rattle.spec_run.specs.Ports.{given_at, given_by, number_at, number_by, pace_start, parallel_start, rate_by, rate_given, recoveries_start, since_start, threshold, threshold_of, threshold_within, turns_start, value_by, within}
+use Rattle.base_tables.specs.Shapes.{AllIdle, IsBegun, IsCounted, IsGiven, IsGivenAt, IsPaced, IsRate, IsRecovering, IsTurned, TurnsGoOn, is_failure, is_success}
 use Rattle.spec_run.specs.Sites.{Site}
 
 -- ---- Numbers of ports
@@ -82,6 +83,42 @@ since_by port now ports name (Some k) P holds given = holds (nat_abs k) (length_
 pub since_begins : (port : PortId) (site : Site) (s : State) (name : List ℕ) (P : Memo → Type 0) → ((k : ℕ) → IsBegun (record { first = s.moment; length = k }) s.moment site.node.ports name → P (Begun (record { first = s.moment; length = k }))) →
     IfOk (since_start port s.moment (within range.Duration (number_at site s name))) P
 since_begins port site s name P holds = since_by port s.moment site.node.ports name (within range.Duration (number_at site s name)) P holds (number_read range.Duration site s name)
+
+-- ---- RecoveryNode
+
+recoveries_given : (ports : List Port) (k : ℤ) → IsGivenAt range.Recoveries ports (codes "number_of_retries") k → fits range.Recoveries (Int k) ≡ true → IsRecovering (record { done = 0; limit = nat_abs k; recovers = false }) ports
+recoveries_given ports (pos k) given e = record { limit = given; within = omega arith; goes_on = λ f. cc }
+recoveries_given ports (negsuc k) given e = cc
+
+recoveries_by : (ports : List Port) (o : Option ℤ) (P : Memo → Type 0) → ((k : ℕ) → IsRecovering (record { done = 0; limit = k; recovers = false }) ports → P (Recovering (record { done = 0; limit = k; recovers = false }))) →
+    IfSome o (λ k. IsGivenAt range.Recoveries ports (codes "number_of_retries") k × (fits range.Recoveries (Int k) ≡ true)) → IfOk (recoveries_start o) P
+recoveries_by ports None P holds given = tt
+recoveries_by ports (Some k) P holds given = holds (nat_abs k) (recoveries_given ports k given.0 given.1)
+
+pub recoveries_begin : (site : Site) (s : State) (P : Memo → Type 0) → ((k : ℕ) → IsRecovering (record { done = 0; limit = k; recovers = false }) site.node.ports → P (Recovering (record { done = 0; limit = k; recovers = false }))) →
+    IfOk (recoveries_start (within range.Recoveries (number_at site s (codes "number_of_retries")))) P
+recoveries_begin site s P holds = recoveries_by site.node.ports (within range.Recoveries (number_at site s (codes "number_of_retries"))) P holds (number_read range.Recoveries site s (codes "number_of_retries"))
+
+-- ---- RateController
+
+entry_rate : (key : List ℕ) (v : Option Value) (rate : ℕ) → rate_given (Key key) v ≡ Some rate → IsRate (Some (Key key)) rate
+entry_rate key None rate e = cc
+entry_rate key (Some (Text t)) rate e = cc
+entry_rate key (Some (Int k)) rate e = (k, e)
+
+rate_read : (site : Site) (s : State) (given : Option PortValue) (rate : ℕ) → rate_by site s given ≡ Some rate → IsRate given rate
+rate_read site s None rate e = cc
+rate_read site s (Some (Lit value)) rate e = e
+rate_read site s (Some (Key key)) rate e = entry_rate key (value_by site s (Some (Key key))) rate e
+
+pace_by : (now : ℕ) (ports : List Port) (o : Option ℕ) (P : Memo → Type 0) → ((rate : ℕ) → IsPaced (record { first = now; rate = rate; due = true }) now ports → P (Paced (record { first = now; rate = rate; due = true }))) →
+    ((rate : ℕ) → o ≡ Some rate → IsRate (given_by (port_of ports (codes "hz"))) rate) → IfOk (pace_start now o) P
+pace_by now ports None P holds given = tt
+pace_by now ports (Some rate) P holds given = holds rate (record { first = omega arith; rate = given rate refl })
+
+pub pace_begins : (site : Site) (s : State) (P : Memo → Type 0) → ((rate : ℕ) → IsPaced (record { first = s.moment; rate = rate; due = true }) s.moment site.node.ports → P (Paced (record { first = s.moment; rate = rate; due = true }))) →
+    IfOk (pace_start s.moment (rate_by site s (given_at site (codes "hz")))) P
+pace_begins site s P holds = pace_by s.moment site.node.ports (rate_by site s (given_at site (codes "hz"))) P holds (rate_read site s (given_at site (codes "hz")))
 
 -- ---- Parallel
 

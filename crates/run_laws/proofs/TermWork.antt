@@ -13,12 +13,12 @@ use Rattle.spec_run.specs.Done.{Done, State}
 use Rattle.spec_run.specs.Run.{root_told, ticked}
 use Rattle.spec_run.specs.Sites.{Meaning, View}
 use Rattle.base_tables.specs.Sound.{Sound, States, begun_calls, states_of_node}
-use Rattle.spec_tree.specs.Terms.{times_of, work_of}
+use Rattle.spec_tree.specs.Terms.{once_more, times_of, work_of}
 use Rattle.base_tables.specs.Runnable.{IsRunnable, NodeRuns}
 use Rattle.spec_tree.specs.Trees.{Node, nodes_of, nodes_step}
 use Rattle.spec_run.specs.Visit.{meaning}
 use Rattle.run_laws.proofs.Children.{Family}
-use Rattle.run_laws.proofs.Induction.{above, every_term, node_means}
+use Rattle.run_laws.proofs.Induction.{above, every_term, map_twice, node_means}
 use Rattle.run_laws.proofs.Keeping.{family, term_keeps}
 use Rattle.run_laws.proofs.Shares.{whole}
 use Rattle.run_laws.proofs.Spending.{Labour, Spends, follow_with}
@@ -64,10 +64,12 @@ module _ {X : Type 0} (term : X → Term) where
       let other : sum (map work_of (map term (c ∷ cs))) ≡ work_of (term c) + sum (map work_of (map term cs)) = sum_by-cons (λ (k : ℕ). k) (work_of (term c)) (map work_of (map term cs)) in
       omega (arith, one, other, work_of_all cs)
 
-  work_of_node : (node : Term-F X) → work_of (above term node) ≡ 1 + times_of node.kind node.ports * whole (λ c. work_of (term c)) node.children
+  work_of_node : (node : Term-F X) → work_of (above term node) ≡ 1 + (times_of node.kind node.ports * whole (λ c. work_of (term c)) node.children + once_more node.kind (map (λ c. work_of (term c)) node.children))
   work_of_node node =
-      fold-roll-Term ℕ (λ n. 1 + times_of n.kind n.ports * sum n.children) (map-Term X Term term node)
-      ∙ ap (λ (n : ℕ). 1 + times_of node.kind node.ports * n) (sym (work_of_all node.children))
+      let more : List ℕ → ℕ = once_more node.kind in
+      fold-roll-Term ℕ (λ n. 1 + (times_of n.kind n.ports * sum n.children + once_more n.kind n.children)) (map-Term X Term term node)
+      ∙ ap (λ (n : ℕ). 1 + (times_of node.kind node.ports * n + more (map work_of (map term node.children)))) (sym (work_of_all node.children))
+      ∙ ap (λ (works : List ℕ). 1 + (times_of node.kind node.ports * whole (λ c. work_of (term c)) node.children + more works)) (sym (map_twice term work_of node.children))
 
 -- ---- Every term
 

@@ -1,5 +1,5 @@
 -- A visit of a node makes no more calls of start and running than its work counts, and a reset makes none.
-use Rattle.std.proofs.Common.{◌≡◌, ℕ, ◌+◌, ◌*◌, ◌≤◌, List, Bool, true, false, Option, Some, None, IfOk, Result, Ok, Err, IsTrue, refl, ap, arith}
+use Rattle.std.proofs.Common.{◌≡◌, ℕ, ◌+◌, ◌*◌, ◌≤◌, List, map, Bool, true, false, Option, Some, None, IfOk, Result, Ok, Err, IsTrue, refl, ap, arith}
 use Rattle.spec_script.specs.declared.syntax.Script.{Script}
 use Rattle.spec_run.specs.declared.fault.PortId.{PortId}
 use Rattle.spec_run.specs.declared.memory.Memo.{Memo}
@@ -21,9 +21,9 @@ use Rattle.base_tables.specs.Shapes.{is_running}
 use Rattle.spec_run.specs.Sites.{Site, View, children_of, remembered, view_below}
 use Rattle.base_tables.specs.Sound.{begins, begun_calls, statuses}
 use Rattle.spec_run.specs.Steps.{Given, resets}
-use Rattle.spec_tree.specs.Terms.{times_of}
+use Rattle.spec_tree.specs.Terms.{once_more, times_of}
 use Rattle.spec_tree.specs.Trees.{ports_fit}
-use Rattle.spec_run.specs.Visit.{begun, cleared, continued, ended, guarded, halt, halt_calls, halt_state, halted, node_rule, or_bad_port, reset_by, ruled, started, starts, visit_by}
+use Rattle.spec_run.specs.Visit.{begun, cleared, continued, ended, guarded, halt, halt_calls, halt_state, halted, node_rule, or_bad_port, remembers, reset_by, ruled, started, starts, visit_by}
 use Rattle.run_laws.proofs.Children.{Family, SoundAll, status_in}
 use Rattle.spec_tree.specs.BuiltIns.{has_rule}
 use Rattle.run_laws.proofs.Beginnings.{Begins, site_here}
@@ -142,7 +142,7 @@ module _ (F : Family) (node : Term-F F.Child) (L : Labour F node.children) (view
   site = site_here F node view uid
 
   abbrev rounds : ℕ
-  rounds = times_of node.kind node.ports * whole L.work node.children
+  rounds = times_of node.kind node.ports * whole L.work node.children + once_more node.kind (map L.work node.children)
 
   abbrev All : Option ℕ → List Memory → State → Type 0
   All f ms s = SoundAll F view.rows node.children f (uid + 1) ms s
@@ -176,7 +176,7 @@ module _ (F : Family) (node : Term-F F.Child) (L : Labour F node.children) (view
   started_spends m s is rests sound =
       let has : has_rule node.kind ≡ true = starts_with_rule node.kind (out-Memory m).memo is in
       let own : NodeKeeps F node view uid status.Idle (out-Memory m).memo (out-Memory m).children s = rests_as_well F node view uid (status_in m) status.Idle (out-Memory m).memo (out-Memory m).children s rests refl sound.0 in
-      started_by_spends m s (new_memo node.kind site (out-Memory m).memo s) has (new_begins F node view uid m s has own sound.1) own sound.1
+      started_by_spends m s (new_memo node.kind site (remembers (status_in m) (out-Memory m).memo) s) has (new_begins F node view uid m s has own sound.1) own sound.1
 
   begun_spends : (b : Bool) (m : Memory) (s : State) → starts node.kind (out-Memory m).memo ≡ b → is_running (status_in m) ≡ false → Holds None m s → Spends (1 + rounds) (begun b site m s)
   begun_spends true m s is rests sound = started_spends m s is rests sound
@@ -184,7 +184,7 @@ module _ (F : Family) (node : Term-F F.Child) (L : Labour F node.children) (view
 
   guarded_spends : (o : Option Answer) (m : Memory) (s : State) → is_running (status_in m) ≡ false → Holds None m s → Spends (1 + rounds) (guarded o site m s)
   guarded_spends (Some a) m s rests sound =
-      let g : Given = record { answer = a; memo = (out-Memory m).memo } in
+      let g : Given = record { answer = a; memo = remembers (status_in m) (out-Memory m).memo } in
       omega (arith, ended_free site (status_in m) g (out-Memory m).children s)
   guarded_spends None m s rests sound = begun_spends (starts node.kind (out-Memory m).memo) m s refl rests sound
 

@@ -3,13 +3,14 @@ use Rattle.std.proofs.Common.{◌≡◌, ℕ, ◌+◌, List, [], Bool, true, fal
 use Rattle.std.proofs.lemmas.List.{length-map}
 use Rattle.spec_run.specs.declared.fault.PortId.{PortId}
 use Rattle.spec_run.specs.declared.memory.Memo.{Memo}
+use Rattle.spec_run.specs.declared.memory.Memo.TheVariants.{Pace as Paced}
 use Rattle.spec_run.specs.declared.memory.Memory.{Memory, out-Memory}
 use Rattle.spec_run.specs.declared.status.Answer.{Answer}
 use Rattle.spec_run.specs.declared.status.Answer.TheVariants as answer
 use Rattle.spec_run.specs.declared.status.Status.{Status}
 use Rattle.spec_run.specs.declared.status.Status.TheVariants as status
 use Rattle.spec_tree.specs.declared.term.Kind.{Kind}
-use Rattle.spec_tree.specs.declared.term.Kind.TheVariants.{RunOnce}
+use Rattle.spec_tree.specs.declared.term.Kind.TheVariants.{RateController, RunOnce}
 use Rattle.spec_tree.specs.declared.term.Port.{Port}
 use Rattle.spec_tree.specs.declared.term.Term.{Term-F}
 use Rattle.spec_world.specs.declared.world.Row.{Row}
@@ -21,7 +22,7 @@ use Rattle.base_tables.specs.Shapes.{RestingShape, Shape, is_running}
 use Rattle.spec_run.specs.Sites.{Site, View, remembered}
 use Rattle.base_tables.specs.Sound.{Leaves, NodeRule, statuses}
 use Rattle.spec_run.specs.Steps.{Given}
-use Rattle.spec_run.specs.Visit.{begun, change, continued, ended, guarded, halt, node_rule, or_bad_port, ruled, started, starts, status_of, visit_by}
+use Rattle.spec_run.specs.Visit.{begun, change, continued, ended, guarded, halt, node_rule, or_bad_port, remembers, ruled, started, starts, status_of, visit_by}
 use Rattle.run_laws.proofs.Parts.{follow_leaves, within_same}
 use Rattle.run_laws.proofs.Children.{Family, SoundAll, all_move, status_in, status_kept}
 use Rattle.run_laws.proofs.Acts.{as_many_statuses}
@@ -35,17 +36,23 @@ use Rattle.run_laws.proofs.NodeRules.{Ready, node_rule_leaves, rests_free, rule_
 
 -- ---- A node that is not RUNNING
 
-pub resting_shape : (st : Status) (kind : Kind) (ports : List Port) (row : Option Row) (moment : ℕ) (memo : Memo) (ss : List Status) → is_running st ≡ false → Shape st kind ports row moment memo ss → RestingShape memo kind ss
+pub resting_shape : (st : Status) (kind : Kind) (ports : List Port) (row : Option Row) (moment : ℕ) (memo : Memo) (ss : List Status) → is_running st ≡ false → Shape st kind ports row moment memo ss → RestingShape ports moment memo kind ss
 resting_shape status.Running kind ports row moment memo ss rests shape = cc
 resting_shape status.Idle kind ports row moment memo ss rests shape = shape
 resting_shape status.Success kind ports row moment memo ss rests shape = shape
 resting_shape status.Failure kind ports row moment memo ss rests shape = shape
 
-shape_rests : (st : Status) (kind : Kind) (ports : List Port) (row : Option Row) (moment : ℕ) (memo : Memo) (ss : List Status) → is_running st ≡ false → RestingShape memo kind ss → Shape st kind ports row moment memo ss
+shape_rests : (st : Status) (kind : Kind) (ports : List Port) (row : Option Row) (moment : ℕ) (memo : Memo) (ss : List Status) → is_running st ≡ false → RestingShape ports moment memo kind ss → Shape st kind ports row moment memo ss
 shape_rests status.Running kind ports row moment memo ss rests shape = cc
 shape_rests status.Idle kind ports row moment memo ss rests shape = shape
 shape_rests status.Success kind ports row moment memo ss rests shape = shape
 shape_rests status.Failure kind ports row moment memo ss rests shape = shape
+
+-- what a node remembers is a memo of a node that is not RUNNING
+pub remembered_shape : (st : Status) (ports : List Port) (moment : ℕ) (memo : Memo) (kind : Kind) (ss : List Status) → RestingShape ports moment memo kind ss → RestingShape ports moment (remembers st memo) kind ss
+remembered_shape status.Idle ports moment (Paced p) RateController ss shape = shape.2
+remembered_shape status.Idle ports moment (Paced p) _ ss shape = absurd shape
+remembered_shape _ ports moment _ kind ss shape = shape
 
 -- a node that starts has children
 pub starts_with_rule : (kind : Kind) (memo : Memo) → starts kind memo ≡ true → has_rule kind ≡ true
@@ -82,6 +89,14 @@ module _ (F : Family) (node : Term-F F.Child) (view : View) (uid : ℕ) where
   pub rests_as_well : (st st1 : Status) (memo : Memo) (ms : List Memory) (s : State) → is_running st ≡ false → is_running st1 ≡ false → Keeps st memo ms s → Keeps st1 memo ms s
   rests_as_well st st1 memo ms s rests rests1 own = record {
     shape = shape_rests st1 node.kind node.ports row s.moment memo (statuses ms) rests1 (resting_shape st node.kind node.ports row s.moment memo (statuses ms) rests own.shape);
+    held = own.held ∙ ap Some (rests_free st node.kind rests ∙ sym (rests_free st1 node.kind rests1));
+  }
+
+  -- .. with what the node remembers
+  pub rests_remembering : (st st1 : Status) (memo : Memo) (ms : List Memory) (s : State) → is_running st ≡ false → is_running st1 ≡ false → Keeps st memo ms s → Keeps st1 (remembers st memo) ms s
+  rests_remembering st st1 memo ms s rests rests1 own = record {
+    shape = shape_rests st1 node.kind node.ports row s.moment (remembers st memo) (statuses ms) rests1
+        (remembered_shape st node.ports s.moment memo node.kind (statuses ms) (resting_shape st node.kind node.ports row s.moment memo (statuses ms) rests own.shape));
     held = own.held ∙ ap Some (rests_free st node.kind rests ∙ sym (rests_free st1 node.kind rests1));
   }
 
@@ -155,13 +170,15 @@ module _ (F : Family) (node : Term-F F.Child) (view : View) (uid : ℕ) where
 
   -- the memo of a start is one with which the rule can begin
   pub new_begins : (m : Memory) (s : State) → has_rule node.kind ≡ true → Keeps status.Idle (out-Memory m).memo (out-Memory m).children s → All None (out-Memory m).children s →
-      IfOk (new_memo node.kind here (out-Memory m).memo s) (λ memo. Begins node.kind node.ports s.moment memo (statuses (out-Memory m).children))
-  new_begins m s has own all = starts_begin here (out-Memory m).memo s (statuses (out-Memory m).children) (as_many_children (out-Memory m).children s all) node.kind has own.shape
+      IfOk (new_memo node.kind here (remembers (status_in m) (out-Memory m).memo) s) (λ memo. Begins node.kind node.ports s.moment memo (statuses (out-Memory m).children))
+  new_begins m s has own all =
+      starts_begin here (remembers (status_in m) (out-Memory m).memo) s (statuses (out-Memory m).children) (as_many_children (out-Memory m).children s all) node.kind has
+      (remembered_shape (status_in m) node.ports s.moment (out-Memory m).memo node.kind (statuses (out-Memory m).children) own.shape)
 
   started_leaves : (m : Memory) (s : State) → starts node.kind (out-Memory m).memo ≡ true → Keeps status.Idle (out-Memory m).memo (out-Memory m).children s → All None (out-Memory m).children s → Visited s (started here m s)
   started_leaves m s begins own all =
       let has : has_rule node.kind ≡ true = starts_with_rule node.kind (out-Memory m).memo begins in
-      started_by m s (new_memo node.kind here (out-Memory m).memo s) has
+      started_by m s (new_memo node.kind here (remembers (status_in m) (out-Memory m).memo) s) has
       (new_begins m s has own all) own all
 
   begun_leaves : (b : Bool) (m : Memory) (s : State) → starts node.kind (out-Memory m).memo ≡ b → is_running (status_in m) ≡ false → Holds None m s → Visited s (begun b here m s)
@@ -172,8 +189,8 @@ module _ (F : Family) (node : Term-F F.Child) (view : View) (uid : ℕ) where
   guarded_leaves : (o : Option Answer) (m : Memory) (s : State) → Rests here o → is_running (status_in m) ≡ false → Holds None m s → Visited s (guarded o here m s)
   guarded_leaves None m s guard rests sound = begun_leaves (starts node.kind (out-Memory m).memo) m s refl rests sound
   guarded_leaves (Some a) m s guard rests sound =
-      ended_leaves (status_in m) (record { answer = a; memo = (out-Memory m).memo }) (out-Memory m).children s
-      (rests_as_well (status_in m) (status_of a) (out-Memory m).memo (out-Memory m).children s rests guard sound.0) sound.1
+      ended_leaves (status_in m) (record { answer = a; memo = remembers (status_in m) (out-Memory m).memo }) (out-Memory m).children s
+      (rests_remembering (status_in m) (status_of a) (out-Memory m).memo (out-Memory m).children s rests guard sound.0) sound.1
 
   -- a visit of a node that is not RUNNING
   rests_visited : (m : Memory) (s : State) → is_running (status_in m) ≡ false → Holds None m s →

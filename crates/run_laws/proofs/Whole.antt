@@ -1,20 +1,21 @@
 -- A node with children that keep their rules: the rule of the node itself, and those of its children.
 use Rattle.std.proofs.Common.{◌≡◌, ℕ, ◌+◌, ◌<◌, ◌≤◌, List, Option, Some, None, sym, ap, subst, ◌∙◌, arith}
 use Rattle.spec_run.specs.declared.memory.Memo.{Memo}
-use Rattle.spec_run.specs.declared.memory.Memo.TheVariants.{Since as Begun}
+use Rattle.spec_run.specs.declared.memory.Memo.TheVariants.{Since as Begun, Pace as Paced}
 use Rattle.spec_run.specs.declared.memory.Memory.{Memory, Memory-F, out-Memory, out-roll-Memory}
+use Rattle.spec_run.specs.declared.memory.Pace.{Pace}
 use Rattle.spec_run.specs.declared.memory.Since.{Since}
 use Rattle.spec_run.specs.declared.status.Answer.{Answer}
 use Rattle.spec_run.specs.declared.status.Status.{Status}
 use Rattle.spec_run.specs.declared.status.Status.TheVariants as status
 use Rattle.spec_tree.specs.declared.term.Kind.{Kind}
-use Rattle.spec_tree.specs.declared.term.Kind.TheVariants.{Timeout, Delay}
+use Rattle.spec_tree.specs.declared.term.Kind.TheVariants.{Timeout, Delay, RateController}
 use Rattle.spec_tree.specs.declared.term.Port.{Port}
 use Rattle.spec_tree.specs.declared.term.Term.{Term-F}
 use Rattle.spec_world.specs.declared.world.Row.{Row}
 use Rattle.spec_run.specs.Done.{Done, State}
 use Rattle.spec_run.specs.Leaves.{row_of}
-use Rattle.base_tables.specs.Shapes.{IsBegun, RunningShape, Shape}
+use Rattle.base_tables.specs.Shapes.{IsBegun, IsPaced, RestingShape, RunningShape, Shape}
 use Rattle.spec_run.specs.Sites.{View, remembered}
 use Rattle.base_tables.specs.Sound.{Leaves, NodeRule, OffPath, held_at}
 use Rattle.spec_run.specs.Steps.{Given}
@@ -27,17 +28,25 @@ use Rattle.run_laws.proofs.Children.{Family, SoundAll, all_move, size_all, statu
 begun_later : (since : Since) (moment later : ℕ) (ports : List Port) (name : List ℕ) → moment ≤ later → IsBegun since moment ports name → IsBegun since later ports name
 begun_later since moment later ports name ahead begun = record { first = omega (arith, begun.first, ahead); length = begun.length }
 
+paced_later : (p : Pace) (moment later : ℕ) (ports : List Port) → moment ≤ later → IsPaced p moment ports → IsPaced p later ports
+paced_later p moment later ports ahead paced = record { first = omega (arith, paced.first, ahead); rate = paced.rate }
+
 running_later : (kind : Kind) (ports : List Port) (row : Option Row) (moment later : ℕ) (memo : Memo) (ss : List Status) → moment ≤ later → RunningShape kind ports row moment memo ss → RunningShape kind ports row later memo ss
 running_later Timeout ports row moment later (Begun since) ss ahead shape = (begun_later since moment later ports _ ahead shape.0, shape.1)
 running_later Delay ports row moment later (Begun since) ss ahead shape = (begun_later since moment later ports _ ahead shape.0, shape.1)
+running_later RateController ports row moment later (Paced p) ss ahead shape = (paced_later p moment later ports ahead shape.0, shape.1)
 running_later _ ports row moment later _ ss ahead shape = shape
+
+resting_later : (ports : List Port) (moment later : ℕ) (memo : Memo) (kind : Kind) (ss : List Status) → moment ≤ later → RestingShape ports moment memo kind ss → RestingShape ports later memo kind ss
+resting_later ports moment later (Paced p) RateController ss ahead shape = (paced_later p moment later ports ahead shape.0, shape.1, shape.2)
+resting_later ports moment later _ kind ss ahead shape = shape
 
 -- a shape stays while time passes
 pub shape_later : (st : Status) (kind : Kind) (ports : List Port) (row : Option Row) (moment later : ℕ) (memo : Memo) (ss : List Status) → moment ≤ later → Shape st kind ports row moment memo ss → Shape st kind ports row later memo ss
 shape_later status.Running kind ports row moment later memo ss ahead shape = running_later kind ports row moment later memo ss ahead shape
-shape_later status.Idle kind ports row moment later memo ss ahead shape = shape
-shape_later status.Success kind ports row moment later memo ss ahead shape = shape
-shape_later status.Failure kind ports row moment later memo ss ahead shape = shape
+shape_later status.Idle kind ports row moment later memo ss ahead shape = resting_later ports moment later memo kind ss ahead shape
+shape_later status.Success kind ports row moment later memo ss ahead shape = resting_later ports moment later memo kind ss ahead shape
+shape_later status.Failure kind ports row moment later memo ss ahead shape = resting_later ports moment later memo kind ss ahead shape
 
 -- ---- The node
 

@@ -26,7 +26,7 @@ use Rattle.run_laws.proofs.Spending.{Labour, Makes, keep_makes, over_makes, pass
 use Rattle.run_laws.proofs.TurnLimits.{Allows}
 
 module _ (F : Family) (cs : List F.Child) (L : Labour F cs) (view : View) (uid : ℕ) where
-  abbrev Costs : ℕ → Rule → Type 0
+  abbrev pub Costs : ℕ → Rule → Type 0
   Costs most rule = Makes F cs L view uid most rule
 
   abbrev pub total : ℕ
@@ -35,10 +35,10 @@ module _ (F : Family) (cs : List F.Child) (L : Labour F cs) (view : View) (uid :
   abbrev from : ℕ → ℕ
   from place = left_from L.work cs place
 
-  either : (most : ℕ) (b : Bool) (one other : Rule) → Costs most one → Costs most other → Costs most (cond b one other)
+  pub either : (most : ℕ) (b : Bool) (one other : Rule) → Costs most one → Costs most other → Costs most (cond b one other)
   either most b one other first second = cond_both b one other (λ rule. Costs most rule) (λ _. first) (λ _. second)
 
-  more_costs : (some most : ℕ) (rule : Rule) → some ≤ most → Costs some rule → Costs most rule
+  pub more_costs : (some most : ℕ) (rule : Rule) → some ≤ most → Costs some rule → Costs most rule
   more_costs some most rule below costs = λ ms s all. omega (arith, below, costs ms s all)
 
   -- ---- Rounds
@@ -137,7 +137,7 @@ module _ (F : Family) (cs : List F.Child) (L : Labour F cs) (view : View) (uid :
   -- ---- Decorators
 
   -- a child is visited first, and what comes after makes no call
-  child_first : (go : Answer → Rule) → ((a : Answer) → Costs 0 (go a)) → Costs total (visit 0 go)
+  pub child_first : (go : Answer → Rule) → ((a : Answer) → Costs 0 (go a)) → Costs total (visit 0 go)
   child_first go free = visit_makes F cs L view uid 0 total 0 go (omega (arith, share_most L.work cs 0)) free
 
   pub child_costs : (other : Answer → Answer) (memo : Memo) → Costs total (child_as other memo)

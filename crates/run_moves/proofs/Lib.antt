@@ -3,5 +3,9 @@ pub mod Counted
 pub mod OrderedRows
 pub mod OrderedVisits
 pub mod ParallelVisits
+pub mod PipelineVisits
+pub mod RateVisits
+pub mod RecoveryVisits
+pub mod RobinVisits
 pub mod Said
 pub mod Visits

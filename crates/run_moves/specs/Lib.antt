@@ -1,4 +1,6 @@
+pub mod AtHand
 pub mod Decorators
+pub mod Navigation
 pub mod Rounds
 pub mod Rows
 pub mod Visits

@@ -8,6 +8,9 @@ use crate::choices::{
     chosen_kept, if_then_else_answered, if_then_else_begun, switch_to, while_do_else_answered,
 };
 use crate::parallels::{counts_kept, parallel_answered, parallel_on, parallel_to};
+use crate::pipelines::{pipeline_answered, pipeline_to};
+use crate::recoveries::{recoveries_kept, recovery_answered, recovery_begun};
+use crate::robins::{robin_answered, robin_begun, rotation_kept};
 use crate::rounds::{Manner, go_on, go_to, index_kept, next_in_round, seen_kept};
 use crate::steps::{pass, visit};
 use spec_run::{Answer, Heard, Memo, Move, Span, Then};
@@ -20,7 +23,7 @@ pub fn control_next(kind: Kind, memo: &mut Memo, n: u32, heard: Heard) -> Move
     requires control { IsTrue (is_control kind) }
     requires fits { Fits kind n memo.old heard }
     // What is still to come of the node's rule is this move, followed by what is to come after it.
-    ensures next { (now : ℕ) → rest kind n now memo.old heard ≡ makes (hears kind) (after kind n) memo.new result }
+    ensures next { (now : ℕ) → rest kind n now memo.old heard ≡ makes (hears kind) (after kind n now) memo.new result }
     ensures onward { GoesOn kind n memo.old (next_place heard) memo.new result.then }
 {
     match heard {
@@ -34,7 +37,7 @@ pub fn control_next(kind: Kind, memo: &mut Memo, n: u32, heard: Heard) -> Move
 fn begin(kind: Kind, memo: &mut Memo, n: u32, picked: u32) -> Move
     requires control { IsTrue (is_control kind) }
     requires fits { FitsStart kind n memo.old picked }
-    ensures next { (now : ℕ) → rule kind n memo.old picked now ≡ makes (hears kind) (after kind n) memo.new result }
+    ensures next { (now : ℕ) → rule kind n memo.old picked now ≡ makes (hears kind) (after kind n now) memo.new result }
     ensures onward { GoesOn kind n memo.old 0 memo.new result.then }
 {
     let index = index_kept(*memo);
@@ -49,6 +52,9 @@ fn begin(kind: Kind, memo: &mut Memo, n: u32, picked: u32) -> Move
         Kind::Switch(_) => switch_to(memo, chosen_kept(*memo), picked),
         Kind::IfThenElse => if_then_else_begun(memo, chosen_kept(*memo), n),
         Kind::WhileDoElse => visit(0),
+        Kind::RecoveryNode => recovery_begun(memo, recoveries_kept(*memo)),
+        Kind::PipelineSequence => pipeline_to(memo, index, n, 0, false),
+        Kind::RoundRobin => robin_begun(memo, rotation_kept(*memo), n),
         _ => unreachable!(),
     }
 }
@@ -58,7 +64,7 @@ fn answered(kind: Kind, memo: &mut Memo, n: u32, place: u32, answer: Answer) -> 
     requires control { IsTrue (is_control kind) }
     requires there { place < n }
     requires fits { FitsChild kind n memo.old place }
-    ensures next { after kind n memo.old (Heard.Answered place answer) ≡ makes (hears kind) (after kind n) memo.new result }
+    ensures next { (now : ℕ) → after kind n now memo.old (Heard.Answered place answer) ≡ makes (hears kind) (after kind n now) memo.new result }
     ensures onward { GoesOn kind n memo.old (place + 1) memo.new result.then }
 {
     match kind {
@@ -73,6 +79,9 @@ fn answered(kind: Kind, memo: &mut Memo, n: u32, place: u32, answer: Answer) -> 
         Kind::Switch(_) => pass(memo, answer),
         Kind::IfThenElse => if_then_else_answered(memo, n, place, answer),
         Kind::WhileDoElse => while_do_else_answered(memo, n, place, answer),
+        Kind::RecoveryNode => recovery_answered(memo, recoveries_kept(*memo), answer),
+        Kind::PipelineSequence => pipeline_answered(memo, n, place, answer),
+        Kind::RoundRobin => robin_answered(memo, n, rotation_kept(*memo), answer),
         _ => unreachable!(),
     }
 }
@@ -87,7 +96,7 @@ pub fn goes_to_next(kind: Kind, memo: &mut Memo, n: u32, heard: Heard) -> Option
     requires fits { Fits kind n memo.old heard }
     ensures child { result ≡ next_child kind n heard }
     ensures next { (place now : ℕ) → result ≡ Some place → rest kind n now memo.old heard ≡
-        makes (hears kind) (after kind n) memo.new (record { reset = Span.None; then = Then.Visit place }) }
+        makes (hears kind) (after kind n now) memo.new (record { reset = Span.None; then = Then.Visit place }) }
     ensures onward { (place : ℕ) → result ≡ Some place → GoesOn kind n memo.old (next_place heard) memo.new (Then.Visit place) }
     // No child is left out, as a Parallel does.
     ensures visited { (place : ℕ) → result ≡ Some place → kind ≢ Kind.Parallel }
@@ -106,8 +115,8 @@ fn next_after(kind: Kind, memo: &mut Memo, n: u32, place: u32, answer: Answer) -
     requires there { place < n }
     requires fits { FitsChild kind n memo.old place }
     ensures child { result ≡ next_child kind n (Heard.Answered place answer) }
-    ensures next { (next : ℕ) → result ≡ Some next → after kind n memo.old (Heard.Answered place answer) ≡
-        makes (hears kind) (after kind n) memo.new (record { reset = Span.None; then = Then.Visit next }) }
+    ensures next { (next now : ℕ) → result ≡ Some next → after kind n now memo.old (Heard.Answered place answer) ≡
+        makes (hears kind) (after kind n now) memo.new (record { reset = Span.None; then = Then.Visit next }) }
     ensures onward { (next : ℕ) → result ≡ Some next → GoesOn kind n memo.old (place + 1) memo.new (Then.Visit next) }
     ensures visited { (next : ℕ) → result ≡ Some next → kind ≢ Kind.Parallel }
     ensures same { result ≡ None → memo.new ≡ memo.old }

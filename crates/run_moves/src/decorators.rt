@@ -4,6 +4,7 @@
 mod decorator;
 pub mod laws;
 mod once;
+mod rates;
 mod turns;
 mod waits;
 

@@ -1,16 +1,20 @@
 //! What the control nodes answer over all that they hear of their children in one visit.
 
-ghost use Rattle.std.specs.Prelude.{ℕ, ◌≡◌, ◌≤◌, ◌-◌, Bool, false, List, Ok, Option, length, map, take};
+ghost use Rattle.std.specs.Prelude.{ℕ, ◌≡◌, ◌≤◌, ◌<◌, ◌-◌, ◌+◌, ◌*◌, Bool, false, true, List, Ok, Option, length, map, take};
 ghost use Rattle.spec_run.specs.declared.memory.Counts.{Counts};
 ghost use Rattle.spec_run.specs.declared.memory.Memo.{Memo};
-ghost use Rattle.spec_run.specs.declared.memory.Memo.TheVariants.{Counts as Counted, Index};
+ghost use Rattle.spec_run.specs.declared.memory.Memo.TheVariants.{Counts as Counted, Index, Recoveries as Recovering, Rotation as Rotating};
 ghost use Rattle.spec_run.specs.declared.memory.Memory.{Memory};
+ghost use Rattle.spec_run.specs.declared.memory.Recoveries.{Recoveries};
+ghost use Rattle.spec_run.specs.declared.memory.Rotation.{Rotation};
 ghost use Rattle.spec_run.specs.declared.status.Answer.{Answer};
 ghost use Rattle.spec_tree.specs.declared.term.Kind.{Kind};
-ghost use Rattle.spec_tree.specs.declared.term.Kind.TheVariants.{Fallback, Parallel, ReactiveFallback, ReactiveSequence, Sequence, SequenceWithMemory};
+ghost use Rattle.spec_tree.specs.declared.term.Kind.TheVariants.{Fallback, Parallel, PipelineSequence, ReactiveFallback, ReactiveSequence, RecoveryNode, RoundRobin, Sequence, SequenceWithMemory};
 ghost use Rattle.spec_run.specs.Done.{State, follow};
 ghost use Rattle.spec_run.specs.Rules.Kinds.{rule};
+ghost use Rattle.spec_run.specs.Rules.Recoveries.{recoveries_left};
 ghost use Rattle.spec_run.specs.Steps.{Child, Rule};
+ghost use Rattle.run_moves.specs.Navigation.{answers_in_turn, answers_round, keeps_rotation, pipeline_answer, pipeline_stops, recovery_row, recovery_stops, robin_answer};
 ghost use Rattle.run_moves.specs.Rows.{fallback_answer, fallback_stops, halts_others, keeps_counts, keeps_index, last_place, parallel_answer, parallel_stops, remembers_index, sequence_answer, sequence_stops};
 ghost use Rattle.run_moves.specs.Visits.{Hears, IsVisit, Told, all_say, answers_from, heard_from};
 
@@ -70,4 +74,31 @@ pub fn parallel_over_a_visit()
         IsVisit (λ h. parallel_stops n c h) n heard →
         Hears Parallel (rule Parallel n (Counted c) picked now) (heard_from 0 heard)
         (keeps_counts c heard (parallel_answer n c heard)) }
+{}
+
+/// A RecoveryNode visits its two children in turn, from the one at hand on: the first child up to an answer other than
+/// FAILURE, the second after each FAILURE while a recovery is left, up to an answer other than SUCCESS.
+pub fn recovery_over_a_visit()
+    ensures attempt { (now picked : ℕ) (r : Recoveries) (answers : List Answer) → r.recovers ≡ false →
+        IsVisit (λ l. recovery_stops false l) (2 * recoveries_left r + 1) answers →
+        Hears RecoveryNode (rule RecoveryNode 2 (Recovering r) picked now) (answers_in_turn false answers) (recovery_row r false answers) }
+    ensures recovery { (now picked : ℕ) (r : Recoveries) (answers : List Answer) → r.recovers ≡ true → r.done < r.limit →
+        IsVisit (λ l. recovery_stops true l) (2 * recoveries_left r) answers →
+        Hears RecoveryNode (rule RecoveryNode 2 (Recovering r) picked now) (answers_in_turn true answers) (recovery_row r true answers) }
+{}
+
+/// A PipelineSequence begins each visit at the first child with none seen, and goes through its children in order, up to
+/// the first FAILURE, or the first RUNNING of the farthest child or one after it.
+pub fn pipeline_over_a_visit()
+    ensures { (n now picked farthest : ℕ) (seen : Bool) (answers : List Answer) → IsVisit (λ l. pipeline_stops farthest l) n answers →
+        Hears PipelineSequence (rule PipelineSequence n (Index farthest seen) picked now) (answers_from 0 answers)
+        (keeps_index (last_place 0 answers) (pipeline_answer farthest false answers)) }
+{}
+
+/// A RoundRobin visits its children in turn, from the one at hand on and going round, up to the first that answers
+/// SUCCESS or RUNNING, and none again that has failed or was skipped since the start.
+pub fn robin_over_a_visit()
+    ensures { (n now picked : ℕ) (r : Rotation) (answers : List Answer) → IsVisit fallback_stops (n - r.passed) answers →
+        Hears RoundRobin (rule RoundRobin n (Rotating r) picked now) (answers_round n r.at answers)
+        (keeps_rotation n r answers (robin_answer n r.skipped answers)) }
 {}

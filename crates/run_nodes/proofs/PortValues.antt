@@ -1,19 +1,21 @@
 -- What the ports of a node give is what the definition reads from the ports of its term.
-use Rattle.std.proofs.Common.{◌≡◌, ℕ, zero, suc, ◌+◌, ◌<◌, ◌≤◌, List, [], ◌∷◌, ◌++◌, length, map, take, codes, decimal, Option, Some, None, Result, Ok, Err, refl, sym, ap, subst, ◌∙◌, arith, lit<, if◌then◌else◌}
+use Rattle.std.proofs.Common.{◌≡◌, ℕ, ℤ, zero, suc, ◌+◌, ◌<◌, ◌≤◌, List, [], ◌∷◌, ◌++◌, length, map, take, codes, decimal, Option, Some, None, Result, Ok, Err, refl, sym, ap, subst, ◌∙◌, arith, lit<, if◌then◌else◌}
 use Rattle.std.proofs.lemmas.Fmt.{decimal_digit}
 use Rattle.std.proofs.lemmas.List.{length-map, length-take}
-use Rattle.std.specs.Prelude.{IsErrAnd, slice_index_or}
+use Rattle.std.specs.Prelude.{IsErrAnd, option_and_then, slice_index_or}
+use Rattle.spec_script.specs.declared.value.Value.{Value}
+use Rattle.spec_script.specs.declared.value.Value.TheVariants.{Int, Text}
 use Rattle.spec_run.specs.declared.fault.PortId.{PortId}
 use Rattle.spec_run.specs.declared.memory.Memo.{Memo}
 use Rattle.spec_tree.specs.declared.term.Kind.{Kind}
-use Rattle.spec_tree.specs.declared.term.Kind.TheVariants.{Parallel, Switch}
+use Rattle.spec_tree.specs.declared.term.Kind.TheVariants.{Parallel, RateController, Switch}
 use Rattle.spec_tree.specs.declared.term.PortValue.{PortValue}
 use Rattle.spec_tree.specs.declared.term.PortValue.TheVariants.{Key, Lit as Literal}
 use Rattle.spec_tree.specs.declared.term.Term.{Term-F}
 use Rattle.spec_tree.specs.declared.built_ins.Range.TheVariants.{AnyValue}
-use Rattle.spec_tree.specs.BuiltIns.{PortRule, ports_of, required, switch_ports}
+use Rattle.spec_tree.specs.BuiltIns.{PortRule, ports_of, rate_of, required, switch_ports}
 use Rattle.spec_run.specs.Done.{State}
-use Rattle.spec_run.specs.Ports.{case_from, given_at, is_case, is_negative, new_memo, number_at, number_by, parallel_start, picked, selected, text_at, text_by, threshold, value_at, value_by}
+use Rattle.spec_run.specs.Ports.{case_from, given_at, is_case, is_negative, new_memo, next_pace, number_at, number_by, pace_start, parallel_start, picked, rate_by, rate_given, selected, text_at, text_by, threshold, value_at, value_by}
 use Rattle.spec_run.specs.Sites.{Meaning, Site, View}
 use Rattle.base_tables.specs.Runnable.{FewCases}
 use Rattle.spec_run.specs.Visit.{or_bad_port, site_of}
@@ -23,13 +25,26 @@ use Rattle.run_arena.specs.declared.source.Source.TheVariants.{Absent}
 use Rattle.run_arena.specs.Nodes.{IsNode}
 use Rattle.run_arena.specs.Sources.{source_at, source_of, source_value}
 use Rattle.run_arena.specs.Stands.{written}
-use Rattle.run_nodes.specs.Given.{case_of, case_selected, first_case, port_at, source_number, source_text, with_memo}
+use Rattle.run_nodes.specs.Given.{case_of, case_selected, first_case, port_at, source_number, source_rate, source_text, with_memo}
 
 -- a source has the value of what is given
 pub given_means : (site : Site) (s : State) (given : Option PortValue) → source_value s.board (source_of site.view given) ≡ value_by site s given
 given_means site s (Some (Literal value)) = refl
 given_means site s (Some (Key key)) = refl
 given_means site s None = refl
+
+-- so is the rate of what an entry holds
+key_rate : (key : List ℕ) (entry : Option Value) → option_and_then (λ (n : ℤ). rate_of (Int n)) (number_by entry) ≡ rate_given (Key key) entry
+key_rate key (Some (Int n)) = refl
+key_rate key (Some (Text t)) = refl
+key_rate key None = refl
+
+-- a source has the rate of what is given
+pub rate_means_given : (site : Site) (s : State) (given : Option PortValue) → source_rate s.board (source_of site.view given) ≡ rate_by site s given
+rate_means_given site s (Some (Literal (Int n))) = refl
+rate_means_given site s (Some (Literal (Text t))) = refl
+rate_means_given site s (Some (Key key)) = key_rate key (value_by site s (Some (Key key)))
+rate_means_given site s None = refl
 
 -- a bad port is the same fault, whichever memo comes after it
 pub bad_port_after : (uid : ℕ) (r : Result (Unit {0}) PortId) (memo : Memo) → with_memo (or_bad_port uid r) memo ≡ or_bad_port uid (with_memo r memo)
@@ -100,6 +115,15 @@ module _ (term : Term-F Meaning) (view : View) (whole uid : ℕ) (s : State) (no
       e
       ∙ (λ i. parallel_start (threshold (k.children i) (success_is i)) (is_negative (success_is i)) (threshold (k.children i) (failure_is i)))
       ∙ starts_as memo Parallel is
+
+  -- the rate of a RateController
+  pub pace_starts : (memo : Memo) (r : Result Memo PortId) → node.kind ≡ RateController →
+      r ≡ next_pace memo (pace_start s.moment (source_rate s.board (port_at node 0))) →
+      r ≡ new_memo term.kind (site_of term view uid) memo s
+  pace_starts memo r is e =
+      let rate_is = ap (λ (ports : List Source). source_rate s.board (slice_index_or ports 0 Absent)) (ports_are RateController is)
+      ∙ rate_means_given (site_of term view uid) s (given_at (site_of term view uid) (codes "hz")) in
+      e ∙ ap (λ (rate : Option ℕ). next_pace memo (pace_start s.moment rate)) rate_is ∙ starts_as memo RateController is
 
   -- ---- Switch
 

@@ -1,13 +1,13 @@
 -- What the ports of a node give: a truth, the first case that has a text, and a memo to start with.
 use Rattle.std.specs.Prelude.{◌≡◌, ℕ, ◌+◌, ℤ, List, [], ◌∷◌, Bool, if◌then◌else◌, length, codes}
-use Rattle.std.specs.Prelude.{Option, Some, None, Result, Ok, Err, option_map, slice_index_or}
+use Rattle.std.specs.Prelude.{Option, Some, None, Result, Ok, Err, option_map, option_and_then, slice_index_or}
 use Rattle.std.specs.List.{All}
 use Rattle.std.specs.Str.{bytes_eq}
 use Rattle.spec_script.specs.declared.value.Value.{Value}
-use Rattle.spec_script.specs.declared.value.Value.TheVariants.{Text}
+use Rattle.spec_script.specs.declared.value.Value.TheVariants.{Int, Text}
 use Rattle.spec_script.specs.Operators.{is_true}
 use Rattle.spec_run.specs.declared.memory.Memo.{Memo}
-use Rattle.spec_tree.specs.BuiltIns.{ports_of}
+use Rattle.spec_tree.specs.BuiltIns.{ports_of, rate_of}
 use Rattle.spec_run.specs.Ports.{is_case, number_by, text_by}
 use Rattle.run_arena.specs.declared.nodes.Node.{Node}
 use Rattle.run_arena.specs.declared.source.Source.{Source}
@@ -31,6 +31,11 @@ source_number board source = number_by (source_value board source)
 abbrev pub source_truth : List (Option Value) → Source → Option Bool
 source_truth board (Lit (Text t)) = Some (bytes_eq t (codes "true"))
 source_truth board source = option_map is_true (source_number board source)
+
+-- the rate that is given, in thousandths of a hertz: a literal's, or so many hertz of a number
+abbrev pub source_rate : List (Option Value) → Source → Option ℕ
+source_rate board (Lit (Text t)) = rate_of (Text t)
+source_rate board source = option_and_then (λ n. rate_of (Int n)) (source_number board source)
 
 -- the text that is given
 abbrev pub source_text : List (Option Value) → Source → Option (List ℕ)

@@ -14,6 +14,6 @@ mod telling;
 pub use alone::visit_alone;
 pub use ending::{end_visit, note_change};
 pub use halting::{halt, quench, reset, reset_children};
-pub use ports::{picked, start_memo};
+pub use ports::{picked, remembers, start_memo};
 pub use scripts::{goes_on, guards_answer, script_if_there};
 pub use telling::tell_leaf;

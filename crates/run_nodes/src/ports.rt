@@ -1,24 +1,29 @@
 ghost use Rattle.std.specs.Prelude.{◌≡◌, ℕ, ◌<◌, ◌^◌, OnErr, length};
 ghost use Rattle.std.specs.List.{All};
-ghost use Rattle.spec_tree.specs.declared.built_ins.Range.TheVariants.{Duration, Turns as TurnRange};
+ghost use Rattle.spec_tree.specs.declared.built_ins.Range.TheVariants.{Duration, Recoveries as RecoveryRange, Turns as TurnRange};
 ghost use Rattle.spec_tree.specs.declared.term.Term.{Term-F};
+ghost use Rattle.spec_run.specs.declared.memory.Memo.TheVariants as spec_memo;
 ghost use Rattle.spec_run.specs.Done.{State};
-ghost use Rattle.spec_run.specs.Ports.{is_negative, new_memo, parallel_start, picked, since_start};
+ghost use Rattle.spec_run.specs.Ports.{is_negative, new_memo, next_pace, pace_start, parallel_start, picked, recoveries_start, since_start};
 ghost use Rattle.spec_run.specs.Ports.{skip_picked, threshold, turns_start, within};
 ghost use Rattle.spec_run.specs.Rules.Decorators.{mark_of};
+ghost use Rattle.spec_run.specs.Rules.RoundRobins.{rotation_at, rotation_of};
 ghost use Rattle.spec_run.specs.Rules.Sequences.{index_of};
 ghost use Rattle.spec_run.specs.Sites.{Meaning, View};
-ghost use Rattle.spec_run.specs.Visit.{or_bad_port, site_of};
+ghost use Rattle.spec_run.specs.Visit.{or_bad_port, remembers, site_of};
 ghost use Rattle.run_arena.specs.Nodes.{IsNode};
 ghost use Rattle.run_arena.specs.Sources.{IsSourceOf};
 ghost use Rattle.run_arena.specs.Stands.{written};
-ghost use Rattle.run_nodes.specs.Given.{HasPorts, case_selected, port_at, source_number, with_memo};
+ghost use Rattle.run_nodes.specs.Given.{HasPorts, case_selected, port_at, source_number, source_rate, with_memo};
 
-use crate::sources::{case_with, number_of, truth_of, value_of};
+use crate::sources::{case_with, number_of, rate_of, truth_of, value_of};
 use base_tables::int_fits;
 use itoa::Buffer;
 use run_arena::{Node, Source};
-use spec_run::{Answer, Cause, Counts, Memo, NodeFault, PortId, Since, Turns};
+use spec_run::{
+    Answer, Cause, Counts, Memo, NodeFault, Pace, PortId, Recoveries, Rotation, Since, Status,
+    Turns,
+};
 use spec_script::Value;
 use spec_tree::{Kind, Range};
 use tree_board::Board;
@@ -104,6 +109,15 @@ fn number_at(node: &Node, place: usize, board: &Board) -> Option<i64>
     number_of(&node.ports.list()[place], board)
 }
 
+/// The rate that the port at this place is given, in thousandths of a hertz; none where it is given none.
+fn rate_at(node: &Node, place: usize, board: &Board) -> Option<u32>
+    requires ports { HasPorts (length board.now) node.now }
+    requires there { place < length node.now.ports }
+    ensures { result ≡ source_rate board.now (port_at node.now place) }
+{
+    rate_of(&node.ports.list()[place], board)
+}
+
 /// Makes a memo the first one of a Parallel, with the counts of its ports. It is not inlined, nor are
 /// those of other kinds that read numbers, so that room for what they make is cleared only there. The
 /// error is the port whose count is out of range, and then the memo stays.
@@ -147,17 +161,101 @@ fn start_since(port: PortId, now: u64, length: Option<i64>, memo: &mut Memo) -> 
     Ok(())
 }
 
-/// Makes a memo the one with which a visit of its node starts. The error is the first port that has
-/// no number of its range, and then the memo stays. `now` is in milliseconds.
+/// The first memo of a RecoveryNode with this limit of recoveries. The error is its port, where the limit is not in
+/// range.
+fn recoveries_start(limit: Option<i64>) -> Result<Memo, PortId>
+    ensures { result ≡ recoveries_start (within RecoveryRange limit) }
+{
+    match limit {
+        Some(limit) if int_fits(Range::Recoveries, limit) => Ok(Memo::Recoveries(Recoveries {
+            done: 0,
+            limit: limit as u32,
+            recovers: false,
+        })),
+        _ => Err(PortId::NumberOfRetries),
+    }
+}
+
+/// Makes a memo the first one of a RecoveryNode with this limit. The error is its port, where the limit is not in
+/// range, and then the memo stays.
+#[inline(never)]
+fn start_recoveries(limit: Option<i64>, memo: &mut Memo) -> Result<(), PortId>
+    ensures starts { with_memo result memo.new ≡ recoveries_start (within RecoveryRange limit) }
+    ensures err { OnErr result (memo.new ≡ memo.old) }
+{
+    *memo = recoveries_start(limit)?;
+    Ok(())
+}
+
+/// Makes a memo the one with which a RoundRobin starts: the child at hand is the one that is kept.
+#[inline(never)]
+fn start_rotation(memo: &mut Memo)
+    ensures { memo.new ≡ spec_memo.Rotation (rotation_at (rotation_of memo.old).at) }
+{
+    let at = match *memo {
+        Memo::Rotation(rotation) => rotation.at,
+        _ => 0,
+    };
+    *memo = Memo::Rotation(Rotation {
+        at,
+        passed: 0,
+        skipped: 0,
+    });
+}
+
+/// What a node of this status that is not RUNNING remembers: a RateController that is IDLE has no pace.
 #[inline(always)]
-fn start_of(node: &Node, memo: &mut Memo, board: &Board, now: u64) -> Result<(), PortId>
+pub fn remembers(status: Status, memo: Memo) -> Memo
+    ensures { result ≡ remembers status memo }
+{
+    match (status, memo) {
+        (Status::Idle, Memo::Pace(_)) => Memo::Nothing,
+        _ => memo,
+    }
+}
+
+/// Makes a memo the one with which a RateController of this old status starts, at `now` in milliseconds: the pace that
+/// it remembers, else one of this rate in thousandths of a hertz. The error is the port of the rate, where it has
+/// none, and then the memo stays.
+#[inline(never)]
+fn start_pace(rate: Option<u32>, old: Status, memo: &mut Memo, now: u64) -> Result<(), PortId>
+    ensures starts { with_memo result memo.new ≡ next_pace (remembers old memo.old) (pace_start now rate) }
+    ensures err { OnErr result (memo.new ≡ memo.old) }
+{
+    if let Memo::Pace(_) = remembers(old, *memo) {
+        return Ok(());
+    }
+    let rate = rate.ok_or(PortId::Hz)?;
+    *memo = Memo::Pace(Pace {
+        first: now,
+        rate,
+        due: true,
+    });
+    Ok(())
+}
+
+/// Makes a memo the one with which a visit of its node starts, which had the status `old`. The error is the first port
+/// that has no number of its range, and then the memo stays. `now` is in milliseconds.
+#[inline(always)]
+fn start_of(
+    node: &Node,
+    old: Status,
+    memo: &mut Memo,
+    board: &Board,
+    now: u64,
+) -> Result<(), PortId>
     requires { HasPorts (length board.now) node.now }
     ensures starts { (term : Term-F Meaning) (view : View) (whole uid : ℕ) (s : State) → IsNode view (written term) whole node.now →
-        with_memo result memo.new ≡ new_memo term.kind (site_of term view uid) memo.old (record s { board = board.now; moment = now }) }
+        let memory = remembers old memo.old in
+        with_memo result memo.new ≡ new_memo term.kind (site_of term view uid) memory (record s { board = board.now; moment = now }) }
     ensures err { OnErr result (memo.new ≡ memo.old) }
 {
     match node.kind {
-        Kind::Sequence | Kind::Fallback | Kind::ReactiveSequence | Kind::ReactiveFallback => {
+        Kind::Sequence
+        | Kind::Fallback
+        | Kind::ReactiveSequence
+        | Kind::ReactiveFallback
+        | Kind::PipelineSequence => {
             *memo = Memo::Index { at: 0, seen: false };
         }
         Kind::SequenceWithMemory => {
@@ -172,6 +270,9 @@ fn start_of(node: &Node, memo: &mut Memo, board: &Board, now: u64) -> Result<(),
         Kind::Repeat => start_turns(PortId::NumCycles, number_at(node, 0, board), memo)?,
         Kind::Timeout => start_since(PortId::Msec, now, number_at(node, 0, board), memo)?,
         Kind::Delay => start_since(PortId::DelayMsec, now, number_at(node, 0, board), memo)?,
+        Kind::RecoveryNode => start_recoveries(number_at(node, 0, board), memo)?,
+        Kind::RoundRobin => start_rotation(memo),
+        Kind::RateController => start_pace(rate_at(node, 0, board), old, memo, now)?,
         Kind::RunOnce => *memo = Memo::Finished(None),
         _ => *memo = Memo::Nothing,
     }
@@ -193,24 +294,25 @@ fn or_bad_port<A>(uid: u32, read: Result<A, PortId>) -> Result<A, NodeFault>
     }
 }
 
-/// Makes a memo the one with which a visit of the node with this uid starts. The error is the fault
-/// of its first port that has no number of its range, and then the memo stays. `now` is in
-/// milliseconds.
+/// Makes a memo the one with which a visit of the node with this uid starts, which had the status `old`. The error is
+/// the fault of its first port that has no number of its range, and then the memo stays. `now` is in milliseconds.
 #[inline(always)]
 pub fn start_memo(
     node: &Node,
     uid: u32,
+    old: Status,
     memo: &mut Memo,
     board: &Board,
     now: u64,
 ) -> Result<(), NodeFault>
     requires { HasPorts (length board.now) node.now }
     ensures starts { (term : Term-F Meaning) (view : View) (whole : ℕ) (s : State) → IsNode view (written term) whole node.now →
-        let started = new_memo term.kind (site_of term view uid) memo.old (record s { board = board.now; moment = now }) in
+        let state = record s { board = board.now; moment = now } in
+        let started = new_memo term.kind (site_of term view uid) (remembers old memo.old) state in
         with_memo result memo.new ≡ or_bad_port uid started }
     ensures err { OnErr result (memo.new ≡ memo.old) }
 {
-    or_bad_port(uid, start_of(node, memo, board, now))
+    or_bad_port(uid, start_of(node, old, memo, board, now))
 }
 
 /// The mark of a RunOnce: the answer of its one run, where it has ended.

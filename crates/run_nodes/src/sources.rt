@@ -4,8 +4,9 @@ ghost use Rattle.std.specs.Option.{option_copied};
 ghost use Rattle.spec_run.specs.Leaves.{sight};
 ghost use Rattle.spec_run.specs.Ports.{is_case};
 ghost use Rattle.run_arena.specs.Sources.{IsSourceOf, source_value};
-ghost use Rattle.run_nodes.specs.Given.{first_case, source_number, source_text, source_truth};
+ghost use Rattle.run_nodes.specs.Given.{first_case, source_number, source_rate, source_text, source_truth};
 
+use base_tables::{int_rate, text_rate};
 use itoa::Buffer;
 use run_arena::Source;
 use spec_script::{Cells, Seen, Value};
@@ -55,6 +56,17 @@ pub fn truth_of(source: &Source, board: &Board) -> Option<bool>
     match source {
         Source::Lit(Value::Text(text)) => Some(text.list() == b"true".as_slice()),
         _ => number_of(source, board).map(|n| n != 0),
+    }
+}
+
+/// The rate that a port is given, in thousandths of a hertz: a literal's, or so many hertz of a number; none else.
+pub fn rate_of(source: &Source, board: &Board) -> Option<u32>
+    requires { IsSourceOf (length board.now) source.now }
+    ensures { result ≡ source_rate board.now source.now }
+{
+    match source {
+        Source::Lit(Value::Text(text)) => text_rate(text.list()),
+        _ => int_rate(number_of(source, board)?),
     }
 }
 

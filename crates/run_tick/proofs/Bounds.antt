@@ -6,7 +6,7 @@ use Rattle.spec_run.specs.declared.memory.Turns.{Turns}
 use Rattle.spec_run.specs.declared.moves.Then.{Then}
 use Rattle.spec_run.specs.declared.moves.Then.TheVariants as then_
 use Rattle.spec_tree.specs.declared.term.Kind.{Kind}
-use Rattle.spec_tree.specs.declared.term.Kind.TheVariants.{Retry, Repeat}
+use Rattle.spec_tree.specs.declared.term.Kind.TheVariants.{RecoveryNode, RoundRobin, Retry, Repeat}
 use Rattle.spec_tree.specs.declared.term.Term.{Term, out-Term}
 use Rattle.base_tables.specs.Moves.{FitsStart, GoesOn, TurnIsLeft, next_place, turns_to_do, visits_left}
 use Rattle.spec_run.specs.Rules.Turns.{limit_of, turns_of}
@@ -92,6 +92,8 @@ turns_few t left = by t.limit left
 pub visits_few : (kind : Kind) (n : ℕ) (memo : Memo) (picked : ℕ) → n < 2 ^ 30 → FitsStart kind n memo picked → visits_left kind n memo 0 ≤ 2 ^ 32 + 1
 visits_few Retry n memo picked few fits = omega (arith, turns_few (turns_of memo) fits)
 visits_few Repeat n memo picked few fits = omega (arith, turns_few (turns_of memo) fits)
+visits_few RecoveryNode n memo picked few fits = omega (arith, fits.1.0)
+visits_few RoundRobin n memo picked few fits = omega (arith, few)
 visits_few _ n memo picked few fits = omega (arith, few)
 
 -- a turn of a node's rule is less than its visit, where no more visits of children are left than there can be

@@ -1,5 +1,5 @@
 -- The children of a node that stands in an arena: where they stand, what they keep, and their rules.
-use Rattle.std.proofs.Common.{◌≡◌, ℕ, zero, suc, ◌+◌, ◌<◌, ◌≤◌, List, [], ◌∷◌, map, length, take, get_or, refl, sym, ap, subst, ◌∙◌, arith}
+use Rattle.std.proofs.Common.{◌≡◌, ℕ, zero, suc, ◌+◌, ◌<◌, ◌≤◌, List, [], ◌∷◌, map, length, take, get_or, sym, ap, subst, ◌∙◌, arith}
 use Rattle.spec_tree.specs.declared.term.Term.{Term, Term-F, out-Term, roll-Term, roll-out-Term}
 use Rattle.spec_tree.specs.declared.term.Term.TheFolds.{rec-roll-Term}
 use Rattle.spec_world.specs.declared.world.Row.{Row}

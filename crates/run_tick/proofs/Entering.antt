@@ -33,7 +33,7 @@ use Rattle.base_tables.specs.Shapes.{RestingShape, RunningShape, Shape, is_runni
 use Rattle.spec_run.specs.Sites.{Meaning, Site, View, children_of, remembered, sizes}
 use Rattle.base_tables.specs.Sound.{Sound, is_held, statuses}
 use Rattle.spec_run.specs.Steps.{Given}
-use Rattle.spec_run.specs.Visit.{begun, change, continued, ended, guarded, halt, kind_rule, meaning, meaning_of_node, node_rule, or_bad_port, ruled, starts, visit_by}
+use Rattle.spec_run.specs.Visit.{begun, change, continued, ended, guarded, halt, kind_rule, meaning, meaning_of_node, node_rule, or_bad_port, remembers, ruled, starts, visit_by}
 use Rattle.run_arena.specs.declared.nodes.Kept.{Kept}
 use Rattle.run_arena.specs.declared.nodes.Node.{Node}
 use Rattle.run_arena.specs.declared.nodes.ReadyGuards.{ReadyGuards}
@@ -53,7 +53,7 @@ use Rattle.run_laws.proofs.Acts.{as_many_statuses}
 use Rattle.run_laws.proofs.Beginnings.{Begins}
 use Rattle.run_laws.proofs.Children.{Keeps}
 use Rattle.run_laws.proofs.KindRules.{kept_begins, running_begins, starts_begin}
-use Rattle.run_laws.proofs.Visits.{starts_with_rule}
+use Rattle.run_laws.proofs.Visits.{remembered_shape, starts_with_rule}
 use Rattle.run_nodes.specs.Calls.{IsInPhase}
 use Rattle.run_nodes.specs.Settles.{Settles}
 use Rattle.run_nodes.proofs.Following.{stops_with}
@@ -135,8 +135,8 @@ module _ (nodes : List Node) (moment : ℕ) (term : Term) (view : View) (uid : �
   pub goes_again : continued true site (memory_in term uid s) now ≡ ruled site status.Running memo ms now
   goes_again = ap (λ (r : Memory-F Memory). ruled site status.Running r.memo r.children now) memory_parts
 
-  pub guard_answers : (a : Answer) → guarded (Some a) site (memory_in term uid s) now ≡ ended site st (record { answer = a; memo = memo }) ms now
-  guard_answers a = ap (λ (r : Memory-F Memory). ended site r.status (record { answer = a; memo = r.memo }) r.children now) memory_parts
+  pub guard_answers : (a : Answer) → guarded (Some a) site (memory_in term uid s) now ≡ ended site st (record { answer = a; memo = remembers st memo }) ms now
+  guard_answers a = ap (λ (r : Memory-F Memory). ended site r.status (record { answer = a; memo = remembers r.status r.memo }) r.children now) memory_parts
 
   pub none_answers : (b : Bool) → starts (kind_of term) memo ≡ b → guarded None site (memory_in term uid s) now ≡ begun b site (memory_in term uid s) now
   none_answers b is = ap (λ (r : Memory-F Memory). begun (starts (kind_of term) r.memo) site (memory_in term uid s) now) memory_parts ∙ ap (λ (x : Bool). begun x site (memory_in term uid s) now) is
@@ -145,9 +145,9 @@ module _ (nodes : List Node) (moment : ℕ) (term : Term) (view : View) (uid : �
   begins_kept = ap (λ (r : Memory-F Memory). ruled site r.status r.memo r.children now) memory_parts
 
   pub starts_with : started_in nodes moment term view uid s ≡ following (change uid st status.Running) []
-      (follow (ends (or_bad_port uid (new_memo (kind_of term) site memo now)) ms now) (λ ms1. remembered status.Running memo ms1) (λ memo1 ms1 s1. ruled site status.Running memo1 ms1 s1))
+      (follow (ends (or_bad_port uid (new_memo (kind_of term) site (remembers st memo) now)) ms now) (λ ms1. remembered status.Running memo ms1) (λ memo1 ms1 s1. ruled site status.Running memo1 ms1 s1))
   starts_with = ap (λ (r : Memory-F Memory). following (change uid r.status status.Running) []
-      (follow (ends (or_bad_port uid (new_memo (kind_of term) site r.memo now)) r.children now) (λ ms1. remembered status.Running r.memo ms1) (λ memo1 ms1 s1. ruled site status.Running memo1 ms1 s1))) memory_parts
+      (follow (ends (or_bad_port uid (new_memo (kind_of term) site (remembers r.status r.memo) now)) r.children now) (λ ms1. remembered status.Running r.memo ms1) (λ memo1 ms1 s1. ruled site status.Running memo1 ms1 s1))) memory_parts
 
   -- ---- The rule
 
@@ -251,13 +251,13 @@ module _ (keeps : (t : Term) → Keeps (meaning t) (Sound t)) (nodes : List Node
           held = λ alone. here.0.held;
         }
 
-    resting_shape : (x : Status) (memo : Memo) → is_running x ≡ false → Shape x (kind_of term) (out-Term term).ports (row_of view.rows (out-Term term).id) moment memo here_statuses → RestingShape memo (kind_of term) here_statuses
+    resting_shape : (x : Status) (memo : Memo) → is_running x ≡ false → Shape x (kind_of term) (out-Term term).ports (row_of view.rows (out-Term term).id) moment memo here_statuses → RestingShape (out-Term term).ports moment memo (kind_of term) here_statuses
     resting_shape status.Running memo e shape = cc
     resting_shape status.Idle memo e shape = shape
     resting_shape status.Success memo e shape = shape
     resting_shape status.Failure memo e shape = shape
 
-    rests_so : is_running (kept_at s.kept uid).status ≡ false → RestingShape (kept_at s.kept uid).memo (kind_of term) here_statuses
+    rests_so : is_running (kept_at s.kept uid).status ≡ false → RestingShape (out-Term term).ports moment (kept_at s.kept uid).memo (kind_of term) here_statuses
     rests_so rests = resting_shape (kept_at s.kept uid).status (kept_at s.kept uid).memo rests (sound_opened term view.rows uid s.kept (state_in nodes s moment) can.sound).0.shape
 
     -- a node that does not start can apply its rule
@@ -270,12 +270,14 @@ module _ (keeps : (t : Term) → Keeps (meaning t) (Sound t)) (nodes : List Node
 
     -- the memo with which a node starts
     pub starts_so : is_running (kept_at s.kept uid).status ≡ false → starts (kind_of term) (kept_at s.kept uid).memo ≡ true → (memo : Memo) →
-        Ok memo ≡ or_bad_port uid (new_memo (kind_of term) (site_at view uid term) (kept_at s.kept uid).memo (state_in nodes s moment)) → CanBegin (kind_of term) (number term) memo
+        Ok memo ≡ or_bad_port uid (new_memo (kind_of term) (site_at view uid term) (remembers (kept_at s.kept uid).status (kept_at s.kept uid).memo) (state_in nodes s moment)) → CanBegin (kind_of term) (number term) memo
     starts_so rests start memo is =
         let site = site_at view uid term in
         let all : length site.node.children ≡ length here_statuses = length-map (out-Term term).children meaning ∙ sym as_many_here in
-        let begins = starts_begin site (kept_at s.kept uid).memo (state_in nodes s moment) here_statuses all (kind_of term) (starts_with_rule (kind_of term) (kept_at s.kept uid).memo start) (rests_so rests) in
-        begins_by memo (given_so (new_memo (kind_of term) site (kept_at s.kept uid).memo (state_in nodes s moment)) is begins)
+        let old : Memo = remembers (kept_at s.kept uid).status (kept_at s.kept uid).memo in
+        let shape = remembered_shape (kept_at s.kept uid).status (out-Term term).ports moment (kept_at s.kept uid).memo (kind_of term) here_statuses (rests_so rests) in
+        let begins = starts_begin site old (state_in nodes s moment) here_statuses all (kind_of term) (starts_with_rule (kind_of term) (kept_at s.kept uid).memo start) shape in
+        begins_by memo (given_so (new_memo (kind_of term) site old (state_in nodes s moment)) is begins)
       where
         given_so : (r : Result Memo PortId) → Ok memo ≡ or_bad_port uid r → IfOk r (λ m. Begins (kind_of term) (out-Term term).ports moment m here_statuses) → Begins (kind_of term) (out-Term term).ports moment memo here_statuses
         given_so (Ok m) is begins = let same : m ≡ memo = cc in subst (λ (x : Memo). Begins (kind_of term) (out-Term term).ports moment x here_statuses) same begins
@@ -469,9 +471,12 @@ module _ (nodes : List Node) (moment : ℕ) (term : Term) (view : View) (uid : �
 
   module _ (o : Option Answer) where
     -- a guard has answered
-    pub answers_so : (a : Answer) → o ≡ Some a →
-        guarded o its m (state_in nodes second moment) ≡ ended its (kept_at kept uid).status (record { answer = a; memo = (kept_at kept uid).memo }) (children_in term uid kept) (state_in nodes second moment)
-    answers_so a is = ap (λ (x : Option Answer). guarded x its m (state_in nodes second moment)) is ∙ guard_answers nodes moment term view uid second a
+    pub answers_so : (a : Answer) → o ≡ Some a → (memo : Memo) → memo ≡ remembers (kept_at kept uid).status (kept_at kept uid).memo →
+        guarded o its m (state_in nodes second moment) ≡ ended its (kept_at kept uid).status (record { answer = a; memo = memo }) (children_in term uid kept) (state_in nodes second moment)
+    answers_so a is left same =
+        ap (λ (x : Option Answer). guarded x its m (state_in nodes second moment)) is
+        ∙ guard_answers nodes moment term view uid second a
+        ∙ ap (λ (x : Memo). ended its (kept_at kept uid).status (record { answer = a; memo = x }) (children_in term uid kept) (state_in nodes second moment)) (sym same)
 
     -- no guard has answered, and the node does not start
     pub keeps_so : o ≡ None → starts (kind_of term) (kept_at kept uid).memo ≡ false → guarded o its m (state_in nodes second moment) ≡ ruled_in nodes moment term view uid second
@@ -531,7 +536,7 @@ module _ (keeps : (t : Term) → Keeps (meaning t) (Sound t)) (nodes : List Node
 
   -- what a start from this memo comes to
   abbrev starting : Memo → Result Memo NodeFault
-  starting m = or_bad_port uid (new_memo (kind_of term) (site_at view uid term) m (state_in nodes s0 moment))
+  starting m = or_bad_port uid (new_memo (kind_of term) (site_at view uid term) (remembers old.status m) (state_in nodes s0 moment))
 
   memo_read : starting (kept_at kept1 uid).memo ≡ starting old.memo
   memo_read = ap (λ (k : Kept). starting k.memo) here1

@@ -36,7 +36,7 @@ module _ (ns : List Note) (cs : List Call) where
   waiting_after w d =
       follow_after ns cs (placed w.frame.place (children_in w.term w.frame.uid w.kept) d)
       (λ ms1. remembered (kept_at w.kept w.frame.uid).status (kept_at w.kept w.frame.uid).memo ms1)
-      (λ a ms1 s1. ruled_by w.term w.view w.frame.uid (kept_at w.kept w.frame.uid).status (kept_at w.kept w.frame.uid).memo (after (kind_of w.term) (number w.term) w.frame.memo (Answered w.frame.place a)) ms1 s1)
+      (λ a ms1 s1. ruled_by w.term w.view w.frame.uid (kept_at w.kept w.frame.uid).status (kept_at w.kept w.frame.uid).memo (after (kind_of w.term) (number w.term) w.state.moment w.frame.memo (Answered w.frame.place a)) ms1 s1)
 
   pub resume_after : (ws : List Waiting) (d : Done Answer Memory) → resume ws (following ns cs d) ≡ following ns cs (resume ws d)
   resume_after [] d = refl
@@ -142,7 +142,7 @@ module _ (nodes : List Node) (moment : ℕ) (root : Term) (first : ℕ) where
       stopped nodes moment (λ (kept : List Kept). slice_set (children_in w.term w.frame.uid w.kept) w.frame.place (memory_of term uid kept)) (memory_of w.term w.frame.uid) s0 s1 n0 n1
       (placed w.frame.place (children_in w.term w.frame.uid w.kept) d)
       (λ ms1. remembered (kept_at w.kept w.frame.uid).status (kept_at w.kept w.frame.uid).memo ms1)
-      (λ a ms1 s. ruled_by w.term w.view w.frame.uid (kept_at w.kept w.frame.uid).status (kept_at w.kept w.frame.uid).memo (after (kind_of w.term) (number w.term) w.frame.memo (Answered w.frame.place a)) ms1 s)
+      (λ a ms1 s. ruled_by w.term w.view w.frame.uid (kept_at w.kept w.frame.uid).status (kept_at w.kept w.frame.uid).memo (after (kind_of w.term) (number w.term) w.state.moment w.frame.memo (Answered w.frame.place a)) ms1 s)
       e (memory_now k) (placed_stops (memory_of term uid) w.frame.place (children_in w.term w.frame.uid w.kept) e s0 s1 n0 n1 d m)
 
   -- a part ended with a fault or for want of memory, and so did the whole

@@ -211,7 +211,7 @@ child_status term view uid place at kept there is =
 module _ (nodes : List Node) (moment : ℕ) (term : Term) (view : View) (uid : ℕ) (s : Scene) (can : CanGoOn nodes moment term view uid s) (frame : Frame) (here : frame.uid ≡ uid) (ruled : has_rule (kind_of term) ≡ true)
     (first : ℕ) (memo : Memo) (onward : GoesOn (kind_of term) (number term) memo first frame.memo (then_.Visit frame.place)) (child : frame.child ≡ uid_of (out-Term term).children (uid + 1) frame.place) where
   abbrev comes_then : Done Answer Memory
-  comes_then = goes_by nodes moment term view uid s (hears (kind_of term) frame.place (after (kind_of term) (number term) frame.memo))
+  comes_then = goes_by nodes moment term view uid s (hears (kind_of term) frame.place (after (kind_of term) (number term) moment frame.memo))
 
   status_is : (child_at (children_of (site_at view uid term)) frame.place).status (children_in term uid s.kept) ≡ (kept_at s.kept frame.child).status
   status_is = child_status term view uid frame.place frame.child s.kept onward.0 child
@@ -229,7 +229,7 @@ module _ (nodes : List Node) (moment : ℕ) (term : Term) (view : View) (uid : �
     can = can;
     ruled = ruled;
     fits = (parallel_alone (kind_of term) (kept_at s.kept frame.child).status e, onward.0, onward.1);
-    next_is = hears_passed term view uid (kept_at s.kept uid).status (kept_at s.kept uid).memo frame.place (after (kind_of term) (number term) frame.memo) (children_in term uid s.kept) (state_in nodes s moment) (kind_of term) (passes_is (kind_of term) ∙ e);
+    next_is = hears_passed term view uid (kept_at s.kept uid).status (kept_at s.kept uid).memo frame.place (after (kind_of term) (number term) moment frame.memo) (children_in term uid s.kept) (state_in nodes s moment) (kind_of term) (passes_is (kind_of term) ∙ e);
   }
   turns false e = record {
     here = here;
@@ -238,7 +238,7 @@ module _ (nodes : List Node) (moment : ℕ) (term : Term) (view : View) (uid : �
     fits = λ a. (onward.0, onward.1);
     there = onward.0;
     child = child;
-    next_is = hears_visited term view uid (kept_at s.kept uid).status (kept_at s.kept uid).memo frame.place (after (kind_of term) (number term) frame.memo) (children_in term uid s.kept) (state_in nodes s moment) (kind_of term) (passes_is (kind_of term) ∙ e);
+    next_is = hears_visited term view uid (kept_at s.kept uid).status (kept_at s.kept uid).memo frame.place (after (kind_of term) (number term) moment frame.memo) (children_in term uid s.kept) (state_in nodes s moment) (kind_of term) (passes_is (kind_of term) ∙ e);
   }
 
 -- the child at this place is visited, and none is reset
@@ -300,15 +300,15 @@ module _ (keeps : (t : Term) → Keeps (meaning t) (Sound t)) (nodes : List Node
         subst (λ (kd : Kind). FitsMoves kd here.children step.memo step.heard) (sym here_kind)
         (subst (λ (n : ℕ). FitsMoves (kind_of term) n step.memo step.heard) (sym here_number) k.fits)
 
-    module _ (memo : Memo) (go : Move) (moves : rest here.kind here.children moment step.memo step.heard ≡ makes (hears here.kind) (after here.kind here.children) memo go)
+    module _ (memo : Memo) (go : Move) (moves : rest here.kind here.children moment step.memo step.heard ≡ makes (hears here.kind) (after here.kind here.children moment) memo go)
         (onward : GoesOn here.kind here.children step.memo (next_place step.heard) memo go.then) where
       abbrev pub still : Then → Rule
-      still then = going (hears (kind_of term)) (after (kind_of term) (number term)) memo then
+      still then = going (hears (kind_of term)) (after (kind_of term) (number term) moment) memo then
 
       pub moves_so : rest (kind_of term) (number term) moment step.memo step.heard ≡ after_resets go.reset (still go.then)
       moves_so =
-          subst (λ (kd : Kind). rest kd (number term) moment step.memo step.heard ≡ makes (hears kd) (after kd (number term)) memo go) here_kind
-          (subst (λ (n : ℕ). rest here.kind n moment step.memo step.heard ≡ makes (hears here.kind) (after here.kind n) memo go) here_number moves)
+          subst (λ (kd : Kind). rest kd (number term) moment step.memo step.heard ≡ makes (hears kd) (after kd (number term) moment) memo go) here_kind
+          (subst (λ (n : ℕ). rest here.kind n moment step.memo step.heard ≡ makes (hears here.kind) (after here.kind n moment) memo go) here_number moves)
 
       pub onward_so : GoesOn (kind_of term) (number term) step.memo (next_place step.heard) memo go.then
       onward_so =

@@ -32,7 +32,7 @@ use Rattle.spec_run.specs.NodeScripts.{goes_on_by as goes_on_with}
 use Rattle.base_tables.specs.Shapes.{is_running}
 use Rattle.spec_run.specs.Sites.{Site, View}
 use Rattle.spec_run.specs.Steps.{visit}
-use Rattle.spec_run.specs.Visit.{meaning, or_bad_port, starts}
+use Rattle.spec_run.specs.Visit.{meaning, or_bad_port, remembers, starts}
 use Rattle.run_arena.specs.declared.frame.Frame.{Frame}
 use Rattle.run_arena.specs.declared.nodes.Kept.{Kept}
 use Rattle.run_arena.specs.declared.nodes.Node.{Node}
@@ -134,7 +134,7 @@ module _ (keeps : (t : Term) → Keeps (meaning t) (Sound t)) (nodes : List Node
 
 -- a ReactiveFallback begins with the visit of its first child
 first_move : (n which now : ℕ) (memo : Memo) → IsTrue (takes ReactiveFallback n) →
-    rest ReactiveFallback n now memo (Begin which) ≡ makes (hears ReactiveFallback) (after ReactiveFallback n) (Index 0 false) (record { reset = span.None; then = then_.Visit 0 })
+    rest ReactiveFallback n now memo (Begin which) ≡ makes (hears ReactiveFallback) (after ReactiveFallback n now) (Index 0 false) (record { reset = span.None; then = then_.Visit 0 })
 first_move zero which now memo takes_so = cc
 first_move (suc n) which now memo takes_so =
     let left : n ≡ suc n - 1 = omega arith in
@@ -146,9 +146,9 @@ first_onward (suc n) memo takes_so = (omega arith, refl, omega arith)
 
 -- and ends with a SUCCESS of it
 pub last_move : (kind : Kind) (n now : ℕ) → kind ≡ ReactiveFallback →
-    rest kind n now (Index 0 false) (Answered 0 answer.Success) ≡ makes (hears kind) (after kind n) Nothing (record { reset = span.All; then = then_.Give answer.Success })
+    rest kind n now (Index 0 false) (Answered 0 answer.Success) ≡ makes (hears kind) (after kind n now) Nothing (record { reset = span.All; then = then_.Give answer.Success })
 last_move kind n now is =
-    subst (λ (k : Kind). rest k n now (Index 0 false) (Answered 0 answer.Success) ≡ makes (hears k) (after k n) Nothing (record { reset = span.All; then = then_.Give answer.Success })) (sym is) refl
+    subst (λ (k : Kind). rest k n now (Index 0 false) (Answered 0 answer.Success) ≡ makes (hears k) (after k n now) Nothing (record { reset = span.All; then = then_.Give answer.Success })) (sym is) refl
 
 -- a ReactiveFallback has a first child
 some_child : (n : ℕ) → IsTrue (takes ReactiveFallback n) → 0 < n
@@ -190,8 +190,8 @@ module _ (keeps : (t : Term) → Keeps (meaning t) (Sound t)) (nodes : List Node
       let step : Step = record { uid = uid; memo = (kept_at kept2 uid).memo; heard = Begin 0 } in
       let by : GoesOnBy nodes moment term view step.uid step s2 begins.ends.next = begins.ends.does in
       let here : Node = node_at nodes uid in
-      let moves : rest here.kind here.children moment step.memo step.heard ≡ makes (hears here.kind) (after here.kind here.children) (Index 0 false) (record { reset = span.None; then = then_.Visit 0 }) =
-      subst (λ (k : Kind). rest k here.children moment step.memo step.heard ≡ makes (hears k) (after k here.children) (Index 0 false) (record { reset = span.None; then = then_.Visit 0 })) (sym kind)
+      let moves : rest here.kind here.children moment step.memo step.heard ≡ makes (hears here.kind) (after here.kind here.children moment) (Index 0 false) (record { reset = span.None; then = then_.Visit 0 }) =
+      subst (λ (k : Kind). rest k here.children moment step.memo step.heard ≡ makes (hears k) (after k here.children moment) (Index 0 false) (record { reset = span.None; then = then_.Visit 0 })) (sym kind)
       (first_move here.children 0 moment step.memo takes_so) in
       let onward : GoesOn here.kind here.children step.memo 0 (Index 0 false) (then_.Visit 0) =
       subst (λ (k : Kind). GoesOn k here.children step.memo 0 (Index 0 false) (then_.Visit 0)) (sym kind) (first_onward here.children step.memo takes_so) in
@@ -215,8 +215,8 @@ module _ (keeps : (t : Term) → Keeps (meaning t) (Sound t)) (nodes : List Node
     pub asks_waits : n1 ≡ n0 ++ Changed uid (kept_at kept uid).status status.Running ∷ [] → (is1 : kept1 ≡ slice_set kept uid (record (kept_at kept uid) { status = status.Running })) →
         (is2 : kept2 ≡ slice_set kept1 uid (record (kept_at kept1 uid) { memo = Index 0 false })) → Goes nodes moment term view uid (Ok (turn.Wait frame)) s0 s2 n0 n1 (started_in nodes moment term view uid s0)
     asks_waits noted is1 is2 =
-        let new : Ok (Index 0 false) ≡ or_bad_port uid (new_memo (kind_of term) (site_at view uid term) (kept_at kept1 uid).memo (state_in nodes s0 moment)) =
-        ap (λ (k : Kind). or_bad_port uid (new_memo k (site_at view uid term) (kept_at kept1 uid).memo (state_in nodes s0 moment))) (sym is_asking) in
+        let new : Ok (Index 0 false) ≡ or_bad_port uid (new_memo (kind_of term) (site_at view uid term) (remembers (kept_at kept uid).status (kept_at kept1 uid).memo) (state_in nodes s0 moment)) =
+        ap (λ (k : Kind). or_bad_port uid (new_memo k (site_at view uid term) (remembers (kept_at kept uid).status (kept_at kept1 uid).memo) (state_in nodes s0 moment))) (sym is_asking) in
         let started = start_made keeps nodes moment term view uid kept kept1 board facts drivers n0 n1 can rests noted is1 kept2 (Index 0 false) is2 it_starts new in
         let memo_is : (kept_at kept2 uid).memo ≡ Index 0 false = ap (λ (k : Kept). k.memo) (here2 keeps nodes moment term view uid kept kept1 board facts drivers n0 n1 can rests noted is1 kept2 (Index 0 false) is2) in
         let beside : Beside uid 1 kept kept2 =

@@ -89,9 +89,9 @@ module _ (keeps : (t : Term) → Keeps (meaning t) (Sound t)) (nodes : List Node
     pub waits_as : next ≡ goes_following now_waiting (visit_in nodes moment child below frame.child s)
     waits_as =
         k.next_is
-        ∙ visit_opened term view frame.uid (kept_at s.kept frame.uid).status (kept_at s.kept frame.uid).memo frame.place (λ a. after (kind_of term) (number term) frame.memo (Answered frame.place a)) ms (state_in nodes s moment)
+        ∙ visit_opened term view frame.uid (kept_at s.kept frame.uid).status (kept_at s.kept frame.uid).memo frame.place (λ a. after (kind_of term) (number term) moment frame.memo (Answered frame.place a)) ms (state_in nodes s moment)
         ∙ ap (λ (d : Done Answer (List Memory)). follow d (λ ms1. remembered (kept_at s.kept frame.uid).status (kept_at s.kept frame.uid).memo ms1)
-        (λ a ms1 s1. ruled_by term view frame.uid (kept_at s.kept frame.uid).status (kept_at s.kept frame.uid).memo (after (kind_of term) (number term) frame.memo (Answered frame.place a)) ms1 s1)) child_visit
+        (λ a ms1 s1. ruled_by term view frame.uid (kept_at s.kept frame.uid).status (kept_at s.kept frame.uid).memo (after (kind_of term) (number term) moment frame.memo (Answered frame.place a)) ms1 s1)) child_visit
 
     child_sound : Sound child view.rows None frame.child (memory_of child frame.child s.kept) (state_in nodes s moment)
     child_sound =
@@ -163,7 +163,7 @@ module _ (keeps : (t : Term) → Keeps (meaning t) (Sound t)) (nodes : List Node
         ruled = k.ruled;
         fits = k.moves a;
         next_is = (λ i. ruled_by w.term w.view w.frame.uid (sym (node_kept nodes moment w.term 0 k) i).status (sym (node_kept nodes moment w.term 0 k) i).memo
-            (after (kind_of w.term) (number w.term) w.frame.memo (Answered w.frame.place a)) (children_now nodes moment w.term 0 k i) (state_in nodes s moment));
+            (after (kind_of w.term) (number w.term) (k.moment_is i) w.frame.memo (Answered w.frame.place a)) (children_now nodes moment w.term 0 k i) (state_in nodes s moment));
       }
 
   -- ---- The turns

@@ -9,18 +9,19 @@ use Rattle.std.specs.Ordering.{int_eq}
 use Rattle.std.specs.Str.{bytes_eq}
 use Rattle.spec_script.specs.declared.value.Value.{Value}
 use Rattle.spec_script.specs.declared.value.Value.TheVariants.{Int}
+use Rattle.spec_tree.specs.declared.built_ins.Range.{Range}
 use Rattle.spec_tree.specs.declared.built_ins.Range.TheVariants as range
 use Rattle.spec_run.specs.declared.memory.Memo.{Memo}
-use Rattle.spec_run.specs.declared.memory.Memo.TheVariants.{Chosen, Counts as Counted, Turns as Turned}
+use Rattle.spec_run.specs.declared.memory.Memo.TheVariants.{Chosen, Counts as Counted, Turns as Turned, Recoveries as Recovering, Rotation as Rotating}
 use Rattle.spec_run.specs.declared.memory.Turns.{Turns}
 use Rattle.spec_run.specs.declared.status.Status.{Status}
 use Rattle.spec_run.specs.declared.status.Status.TheVariants.{Idle, Running}
 use Rattle.spec_tree.specs.declared.term.Kind.{Kind}
-use Rattle.spec_tree.specs.declared.term.Kind.TheVariants.{Parallel, Switch, IfThenElse, WhileDoElse, Retry, Repeat}
+use Rattle.spec_tree.specs.declared.term.Kind.TheVariants.{Parallel, Switch, IfThenElse, WhileDoElse, RecoveryNode, RoundRobin, Retry, Repeat}
 use Rattle.spec_tree.specs.declared.term.Port.{Port}
 use Rattle.spec_tree.specs.declared.term.PortValue.{PortValue}
 use Rattle.spec_tree.specs.declared.term.PortValue.TheVariants.{Lit, Key}
-use Rattle.spec_tree.specs.BuiltIns.{fits, required, takes}
+use Rattle.spec_tree.specs.BuiltIns.{PortRule, fits, required, takes, with_default}
 use Rattle.spec_run.specs.Done.{State}
 use Rattle.base_tables.specs.Moves.{TurnIsLeft}
 use Rattle.spec_run.specs.Ports.{case_from, given_by, is_case, picked, selected, text_at}
@@ -51,16 +52,20 @@ picks_so (Switch cases) site memo s place is =
     omega (arith, same, selected_within site s cases (text_at site s (codes "variable")))
 picks_so _ site memo s place is = tt
 
--- ---- Limits of turns
+-- ---- Limits of turns and recoveries
 
 -- a limit, where it is one, is at most 1000
 abbrev Small : ℤ → Type 0
 Small (pos limit) = limit ≤ 1000
 Small (negsuc n) = Unit {0}
 
-fits_small : (k : ℤ) → fits range.Turns (Int k) ≡ true → Small k
-fits_small (negsuc n) e = tt
-fits_small (pos limit) e = ⊎_elim
+-- the numbers of a range are such limits
+abbrev AreSmall : Range → Type 0
+AreSmall r = (k : ℤ) → fits r (Int k) ≡ true → Small k
+
+turns_small : AreSmall range.Turns
+turns_small (negsuc n) e = tt
+turns_small (pos limit) e = ⊎_elim
     (λ same. absurd (not_same same))
     (λ between. leb-true limit 1000 (and_parts (int_le (pos 1) (pos limit)) (int_le (pos limit) (pos 1000)) between).1)
     (or_cases (int_eq (pos limit) (negsuc 0)) (int_le (pos 1) (pos limit) && int_le (pos limit) (pos 1000)) e)
@@ -68,27 +73,39 @@ fits_small (pos limit) e = ⊎_elim
     not_same : int_eq (pos limit) (negsuc 0) ≡ true → ⊥
     not_same same = cc
 
-given_small : (given : PortValue) (k : ℤ) → value_fits range.Turns given ≡ true → IsGiven range.Turns (Some given) k → Small k
-given_small (Key key) k fit is = fits_small k is
-given_small (Lit value) k fit is = fits_small k (subst (λ (v : Value). fits range.Turns v ≡ true) is (and_parts (is_plain value) (fits range.Turns value) fit).1)
+recoveries_small : AreSmall range.Recoveries
+recoveries_small (negsuc n) e = tt
+recoveries_small (pos limit) e = leb-true limit 1000 (and_parts (int_le (pos 0) (pos limit)) (int_le (pos limit) (pos 1000)) e).1
 
-one_fits : (name : List ℕ) (port : Port) → is_one_of (required name range.Turns ∷ []) port ≡ true → value_fits range.Turns port.value ≡ true
-one_fits name port = by (bytes_eq port.name name)
-  where
-    by : (b : Bool) → cond b (value_fits range.Turns port.value) false ≡ true → value_fits range.Turns port.value ≡ true
-    by true e = e
-    by false e = cc
+fits_by : (b c : Bool) → cond b c false ≡ true → c ≡ true
+fits_by true c e = e
+fits_by false c e = cc
 
-first_small : (name : List ℕ) (first : Port) (ports : List Port) (k : ℤ) → value_fits range.Turns first.value ≡ true → (IsGivenAt range.Turns ports name k → Small k) →
-    (b : Bool) → IsGiven range.Turns (given_by (cond b (Some first) (find (λ (port : Port). bytes_eq port.name name) ports))) k → Small k
-first_small name first ports k fit others true given = given_small first.value k fit given
-first_small name first ports k fit others false given = others given
+module _ (rule : PortRule) (small : AreSmall rule.range) where
+  given_small : (given : PortValue) (k : ℤ) → value_fits rule.range given ≡ true → IsGiven rule.range (Some given) k → Small k
+  given_small (Key key) k fit is = small k is
+  given_small (Lit value) k fit is = small k (subst (λ (v : Value). fits rule.range v ≡ true) is (and_parts (is_plain value) (fits rule.range value) fit).1)
 
-ports_small : (name : List ℕ) (ports : List Port) (k : ℤ) → list_all (is_one_of (required name range.Turns ∷ [])) ports ≡ true → IsGivenAt range.Turns ports name k → Small k
-ports_small name [] k fit is = absurd is
-ports_small name (first ∷ ports) k fit is =
-    let parts = and_parts (is_one_of (required name range.Turns ∷ []) first) (list_all (is_one_of (required name range.Turns ∷ [])) ports) fit in
-    first_small name first ports k (one_fits name first parts.0) (λ given. ports_small name ports k parts.1 given) (bytes_eq first.name name) is
+  first_small : (first : Port) (ports : List Port) (k : ℤ) → value_fits rule.range first.value ≡ true → (IsGivenAt rule.range ports rule.name k → Small k) →
+      (b : Bool) → IsGiven rule.range (given_by (cond b (Some first) (find (λ (port : Port). bytes_eq port.name rule.name) ports))) k → Small k
+  first_small first ports k fit others true given = given_small first.value k fit given
+  first_small first ports k fit others false given = others given
+
+  -- what the one port of a kind is given
+  ports_small : (ports : List Port) (k : ℤ) → list_all (is_one_of (rule ∷ [])) ports ≡ true → IsGivenAt rule.range ports rule.name k → Small k
+  ports_small [] k fit is = absurd is
+  ports_small (first ∷ ports) k fit is =
+      let parts = and_parts (is_one_of (rule ∷ []) first) (list_all (is_one_of (rule ∷ [])) ports) fit in
+      first_small first ports k (fits_by (bytes_eq first.name rule.name) (value_fits rule.range first.value) parts.0) (λ given. ports_small ports k parts.1 given) (bytes_eq first.name rule.name) is
+
+abbrev attempts : PortRule
+attempts = required (codes "num_attempts") range.Turns
+
+abbrev cycles : PortRule
+cycles = required (codes "num_cycles") range.Turns
+
+abbrev recoveries : PortRule
+recoveries = with_default (codes "number_of_retries") range.Recoveries (codes "1")
 
 -- where a Retry or Repeat goes on, a turn is left
 turn_left : (t : Turns) → Small t.limit → TurnsGoOn t t.limit → TurnIsLeft t.done (limit_of t.limit)
@@ -120,12 +137,20 @@ begins_so ports moment n ss all few (Switch cases) memo takes_so fit begins = λ
 begins_so ports moment n ss all few IfThenElse (Chosen None) takes_so fit begins = λ picked can. (two_children n takes_so, tt)
 begins_so ports moment n ss all few IfThenElse (Chosen (Some place)) takes_so fit begins = λ picked can. (two_children n takes_so, omega (arith, all, runs_there ss place begins.runs))
 begins_so ports moment n ss all few WhileDoElse memo takes_so fit begins = λ picked can. two_children n takes_so
+begins_so ports moment n ss all few RecoveryNode (Recovering r) takes_so fit begins = λ picked can.
+    let small : r.limit ≤ 1000 = ports_small recoveries recoveries_small ports (pos r.limit) (and_parts (list_all (is_one_of (recoveries ∷ [])) ports) _ fit).0 begins.0.limit in
+    (eqb-true n 2 takes_so, (omega (arith, small), begins.0.goes_on))
+begins_so ports moment n ss all few RoundRobin (Rotating r) takes_so fit begins = λ picked can.
+    let is = begins.0 (omega (arith, all, leb-true 1 n takes_so)) in
+    (omega (arith, all, is.at), omega (arith, all, is.passed), is.skipped)
 begins_so ports moment n ss all few Retry (Turned t) takes_so fit begins = λ picked can.
-    turn_left t (ports_small (codes "num_attempts") ports t.limit (and_parts (list_all (is_one_of (required (codes "num_attempts") range.Turns ∷ [])) ports) _ fit).0 begins.0.limit) begins.0.goes_on
+    turn_left t (ports_small attempts turns_small ports t.limit (and_parts (list_all (is_one_of (attempts ∷ [])) ports) _ fit).0 begins.0.limit) begins.0.goes_on
 begins_so ports moment n ss all few Repeat (Turned t) takes_so fit begins = λ picked can.
-    turn_left t (ports_small (codes "num_cycles") ports t.limit (and_parts (list_all (is_one_of (required (codes "num_cycles") range.Turns ∷ [])) ports) _ fit).0 begins.0.limit) begins.0.goes_on
+    turn_left t (ports_small cycles turns_small ports t.limit (and_parts (list_all (is_one_of (cycles ∷ [])) ports) _ fit).0 begins.0.limit) begins.0.goes_on
 begins_so ports moment n ss all few Parallel memo takes_so fit begins = absurd begins
 begins_so ports moment n ss all few IfThenElse memo takes_so fit begins = absurd begins
+begins_so ports moment n ss all few RecoveryNode memo takes_so fit begins = absurd begins
+begins_so ports moment n ss all few RoundRobin memo takes_so fit begins = absurd begins
 begins_so ports moment n ss all few Retry memo takes_so fit begins = absurd begins
 begins_so ports moment n ss all few Repeat memo takes_so fit begins = absurd begins
 begins_so ports moment n ss all few _ memo takes_so fit begins = λ picked can. tt

@@ -143,7 +143,7 @@ pub record WaitsBy (nodes : List Node) (moment : ℕ) (term : Term) (view : View
   pub fits : (a : Answer) → FitsMoves (kind_of term) (number term) frame.memo (Answered frame.place a)
   pub there : frame.place < number term
   pub child : frame.child ≡ uid_of (out-Term term).children (uid + 1) frame.place
-  pub next_is : next ≡ goes_by nodes moment term view uid s (visit frame.place (λ a. after (kind_of term) (number term) frame.memo (Answered frame.place a)))
+  pub next_is : next ≡ goes_by nodes moment term view uid s (visit frame.place (λ a. after (kind_of term) (number term) moment frame.memo (Answered frame.place a)))
 
 -- what is still to come of the visit of a term, which stands in this view at this uid, where this turn is next
 abbrev pub TurnDoes : List Node → ℕ → Term → View → ℕ → Turn → Scene → Done Answer Memory → Type 0
@@ -231,7 +231,7 @@ goes_following w d =
     follow (placed w.frame.place (children_in w.term w.frame.uid w.kept) d)
     (λ ms1. remembered (kept_at w.kept w.frame.uid).status (kept_at w.kept w.frame.uid).memo ms1)
     (λ a ms1 s1. ruled_by w.term w.view w.frame.uid (kept_at w.kept w.frame.uid).status (kept_at w.kept w.frame.uid).memo
-    (after (kind_of w.term) (number w.term) w.frame.memo (Answered w.frame.place a)) ms1 s1)
+    (after (kind_of w.term) (number w.term) w.state.moment w.frame.memo (Answered w.frame.place a)) ms1 s1)
 
 -- what all waiting visits still do, the topmost first
 abbrev pub resume : List Waiting → Done Answer Memory → Done Answer Memory

@@ -16,7 +16,9 @@ use base_tables::has_rule;
 use base_texts::Stop;
 use run_arena::{Stage, node, set_status};
 use run_driver::Drivers;
-use run_nodes::{end_visit, goes_on, guards_answer, halt, picked, start_memo, visit_alone};
+use run_nodes::{
+    end_visit, goes_on, guards_answer, halt, picked, remembers, start_memo, visit_alone,
+};
 use spec_run::{Answer, Heard, Memo, NodeFault, Note, Status};
 use spec_tree::Kind;
 
@@ -92,7 +94,14 @@ fn start<D: Drivers>(stage: &mut Stage<D>, uid: u32) -> Result<(), Stop<NodeFaul
     })?;
     set_status(stage.kept, uid, Status::Running);
     let memo = &mut stage.kept[uid as usize].memo;
-    match start_memo(node(stage.nodes, uid), uid, memo, stage.board, stage.moment) {
+    match start_memo(
+        node(stage.nodes, uid),
+        uid,
+        old,
+        memo,
+        stage.board,
+        stage.moment,
+    ) {
         Ok(()) => Ok(()),
         Err(fault) => Err(Stop::Fault(fault)),
     }
@@ -113,7 +122,8 @@ fn begin<D: Drivers>(stage: &mut Stage<D>, uid: u32) -> Result<Entered, Stop<Nod
 {
     let here = node(stage.nodes, uid);
     if let Some(answer) = guards_answer(stage.alloc, here.guards.get(), uid, stage.board)? {
-        let memo = stage.kept[uid as usize].memo;
+        let kept = stage.kept[uid as usize];
+        let memo = remembers(kept.status, kept.memo);
         let given = end_visit(stage, uid, answer, memo)?;
         return Ok(Entered::Answers(given));
     }

@@ -30,7 +30,7 @@ pub(crate) fn next_move(kind: Kind, memo: &mut Memo, n: u32, now: u64, heard: He
     requires ruled { has_rule kind ≡ true }
     requires takes { IsTrue (takes kind n) }
     requires fits { Fits kind n memo.old heard }
-    ensures next { rest kind n now memo.old heard ≡ makes (hears kind) (after kind n) memo.new result }
+    ensures next { rest kind n now memo.old heard ≡ makes (hears kind) (after kind n now) memo.new result }
     ensures onward { GoesOn kind n memo.old (next_place heard) memo.new result.then }
 {
     if is_control(kind) {
@@ -64,7 +64,7 @@ fn first_child(kind: Kind, memo: &mut Memo, n: u32) -> Option<u32>
     ensures child { result ≡ first_child kind n memo.old }
     ensures next { (place picked now : ℕ) → result ≡ Some place →
         rule kind n memo.old picked now ≡
-        makes (hears kind) (after kind n) memo.new (record { reset = Span.None; then = Then.Visit place }) }
+        makes (hears kind) (after kind n now) memo.new (record { reset = Span.None; then = Then.Visit place }) }
     ensures onward { (place : ℕ) → result ≡ Some place → GoesOn kind n memo.old 0 memo.new (Then.Visit place) }
     ensures visited { (place : ℕ) → result ≡ Some place → kind ≢ Kind.Parallel }
     ensures same { result ≡ None → memo.new ≡ memo.old }
@@ -100,7 +100,7 @@ pub(crate) fn child_at_once(kind: Kind, memo: &mut Memo, n: u32, heard: Heard) -
     ensures child { result ≡ child_at_once kind n memo.old heard }
     ensures next { (place now : ℕ) → result ≡ Some place →
         rest kind n now memo.old heard ≡
-        makes (hears kind) (after kind n) memo.new (record { reset = Span.None; then = Then.Visit place }) }
+        makes (hears kind) (after kind n now) memo.new (record { reset = Span.None; then = Then.Visit place }) }
     ensures onward { (place : ℕ) → result ≡ Some place → GoesOn kind n memo.old (next_place heard) memo.new (Then.Visit place) }
     // No child is passed over, as by a Parallel.
     ensures visited { (place : ℕ) → result ≡ Some place → kind ≢ Kind.Parallel }

@@ -1,10 +1,12 @@
 -- Which children the rule of a node may visit, by what they may answer.
-use Rattle.std.specs.Prelude.{ℕ, zero, suc, ◌+◌, List, [], ◌∷◌, Bool, true, false, ◌&&◌, ◌||◌, if◌then◌else◌, nat_eq, slice_index_or, Option, Some, None}
+use Rattle.std.specs.Prelude.{ℕ, zero, suc, ◌+◌, pos, List, [], ◌∷◌, codes, Bool, true, false, ◌&&◌, ◌||◌, not, if◌then◌else◌, nat_eq, slice_index_or, Option, Some, None}
+use Rattle.std.specs.Ordering.{int_eq}
 use Rattle.std.specs.Str.{bytes_eq}
+use Rattle.spec_script.specs.declared.value.Value.TheVariants.{Int}
 use Rattle.spec_run.specs.declared.status.Answer.{Answer}
 use Rattle.spec_run.specs.declared.status.Answer.TheVariants.{Success, Failure, Skipped}
 use Rattle.spec_tree.specs.declared.term.Kind.{Kind}
-use Rattle.spec_tree.specs.declared.term.Kind.TheVariants.{Sequence, SequenceWithMemory, ReactiveSequence, Fallback, ReactiveFallback, Switch, IfThenElse, WhileDoElse, AlwaysSuccess, AlwaysFailure, ScriptNode, ScriptCondition, Leaf}
+use Rattle.spec_tree.specs.declared.term.Kind.TheVariants.{Sequence, SequenceWithMemory, ReactiveSequence, Fallback, ReactiveFallback, Switch, IfThenElse, WhileDoElse, RecoveryNode, PipelineSequence, RoundRobin, AlwaysSuccess, AlwaysFailure, ScriptNode, ScriptCondition, Leaf}
 use Rattle.spec_tree.specs.declared.term.Port.{Port}
 use Rattle.spec_tree.specs.declared.term.PortValue.{PortValue}
 use Rattle.spec_tree.specs.declared.term.PortValue.TheVariants.{Lit}
@@ -18,6 +20,11 @@ use Rattle.spec_dead.specs.Answers.{may, only}
 abbrev pub answers_at : List Answers → ℕ → Answers
 answers_at children place = slice_index_or children place (only Skipped)
 
+-- whether something holds of what each child before a place may answer
+abbrev pub all_before : (Answers → Bool) → List Answers → ℕ → Bool
+all_before holds children zero = true
+all_before holds children (suc place) = all_before holds children place && holds (answers_at children place)
+
 -- ---- Sequences and Fallbacks
 
 -- a child may let its round go on, which goes on after SKIPPED and after this answer
@@ -26,8 +33,7 @@ may_pass goes child = may goes child || child.skipped
 
 -- whether all children before a place may let the round go on
 abbrev pub all_pass : Answer → List Answers → ℕ → Bool
-all_pass goes children zero = true
-all_pass goes children (suc place) = all_pass goes children place && may_pass goes (answers_at children place)
+all_pass goes children place = all_before (may_pass goes) children place
 
 -- ---- Switch
 
@@ -76,6 +82,43 @@ branch_reached condition (suc zero) = condition.success
 branch_reached condition (suc (suc zero)) = condition.failure
 branch_reached condition _ = false
 
+-- ---- Nav2's control nodes
+
+-- what the port of this name is given
+abbrev pub given : List Port → List ℕ → Option PortValue
+given ports name = given_by (port_of ports name)
+
+-- whether a number is always 0
+abbrev pub is_zero : Option PortValue → Bool
+is_zero (Some (Lit (Int n))) = int_eq n (pos 0)
+is_zero _ = false
+
+-- whether a RecoveryNode of these ports, whose first child may answer so, may visit its second
+abbrev pub may_recover : List Port → Answers → Bool
+may_recover ports first = first.failure && not (is_zero (given ports (codes "number_of_retries")))
+
+-- the first child of a RecoveryNode, and the second where the first may fail and a recovery may be left
+abbrev pub recovery_reached : List Port → Answers → ℕ → Bool
+recovery_reached ports first zero = true
+recovery_reached ports first (suc zero) = may_recover ports first
+recovery_reached ports first _ = false
+
+-- a child may let its PipelineSequence go on, as RUNNING of a child does that is not the farthest
+abbrev pub may_flow : Answers → Bool
+may_flow child = may_pass Success child || child.running
+
+-- whether all children of a PipelineSequence before a place may let it go on
+abbrev pub all_flow : List Answers → ℕ → Bool
+all_flow children place = all_before may_flow children place
+
+-- whether a child may answer other than RUNNING
+abbrev pub may_end : Answers → Bool
+may_end child = child.success || child.failure || child.skipped
+
+-- whether all children of a RoundRobin before a place may answer other than RUNNING
+abbrev pub all_end : List Answers → ℕ → Bool
+all_end children place = all_before may_end children place
+
 -- ---- All kinds
 
 -- whether a node of this kind, with these ports and with children that may answer so, may visit the child at a place
@@ -88,6 +131,9 @@ reaches ReactiveFallback ports children place = all_pass Failure children place
 reaches (Switch cases) ports children place = may_be_selected (always_selected (ports_of (Switch cases)) ports) place
 reaches IfThenElse ports children place = branch_reached (answers_at children 0) place
 reaches WhileDoElse ports children place = branch_reached (answers_at children 0) place
+reaches RecoveryNode ports children place = recovery_reached ports (answers_at children 0) place
+reaches PipelineSequence ports children place = all_flow children place
+reaches RoundRobin ports children place = all_end children place
 reaches AlwaysSuccess ports children place = false
 reaches AlwaysFailure ports children place = false
 reaches ScriptNode ports children place = false

@@ -7,16 +7,14 @@ use Rattle.spec_script.specs.declared.value.Value.TheVariants.{Int, Text}
 use Rattle.spec_run.specs.declared.status.Answer.{Answer}
 use Rattle.spec_run.specs.declared.status.Answer.TheVariants.{Running, Success, Failure, Skipped}
 use Rattle.spec_tree.specs.declared.term.Kind.{Kind}
-use Rattle.spec_tree.specs.declared.term.Kind.TheVariants.{Sequence, SequenceWithMemory, ReactiveSequence, Fallback, ReactiveFallback, Parallel, Switch, IfThenElse, WhileDoElse, Inverter, ForceSuccess, ForceFailure, KeepRunningUntilFailure, Retry, Repeat, Timeout, Delay, RunOnce, AlwaysSuccess, AlwaysFailure, ScriptNode, ScriptCondition, Leaf}
+use Rattle.spec_tree.specs.declared.term.Kind.TheVariants.{Sequence, SequenceWithMemory, ReactiveSequence, Fallback, ReactiveFallback, Parallel, Switch, IfThenElse, WhileDoElse, RecoveryNode, PipelineSequence, RoundRobin, Inverter, ForceSuccess, ForceFailure, KeepRunningUntilFailure, Retry, Repeat, Timeout, Delay, RunOnce, RateController, AlwaysSuccess, AlwaysFailure, ScriptNode, ScriptCondition, Leaf}
 use Rattle.spec_tree.specs.declared.term.Port.{Port}
 use Rattle.spec_tree.specs.declared.term.PortValue.{PortValue}
 use Rattle.spec_tree.specs.declared.term.PortValue.TheVariants.{Lit, Key}
-use Rattle.spec_tree.specs.Boards.{port_of}
 use Rattle.spec_tree.specs.BuiltIns.{ports_of}
-use Rattle.spec_run.specs.Ports.{given_by}
 use Rattle.spec_dead.specs.declared.answers.Answers.{Answers}
 use Rattle.spec_dead.specs.Answers.{any_answer, becoming, either, exchanged, may, no_answer, only, only_if, without}
-use Rattle.spec_dead.specs.Reached.{all_pass, always_selected, answers_at, may_be_selected}
+use Rattle.spec_dead.specs.Reached.{all_end, all_flow, all_pass, always_selected, answers_at, given, is_zero, may_be_selected, may_recover}
 
 -- what those children may answer that are reached, of children of which the first has this place
 abbrev pub reached_answers : (ℕ → Bool) → ℕ → List Answers → Answers
@@ -58,11 +56,32 @@ branch_answers children =
     (either (only_if (answers_at children 0).success (answers_at children 1))
     (only_if (answers_at children 0).failure (otherwise (length children) (answers_at children 2))))
 
--- ---- Decorators
+-- ---- Nav2's control nodes
 
--- what the port of this name is given
-abbrev pub given : List Port → List ℕ → Option PortValue
-given ports name = given_by (port_of ports name)
+-- a RecoveryNode gives what its first child may answer, and RUNNING of its second, where that is reached: SUCCESS of the
+-- second leads back to the first, and after its FAILURE or SKIPPED the node fails, as after FAILURE of the first
+abbrev pub recovery_answers : List Port → Answers → Answers → Answers
+recovery_answers ports first second = either first (only_if (may_recover ports first && second.running) (only Running))
+
+-- A PipelineSequence ends at a child that is reached and fails or is RUNNING. It succeeds where every child may let it go
+-- on, and some child is not skipped; and it is skipped where all are.
+abbrev pub pipeline_answers : List Answers → Answers
+pipeline_answers children =
+    either (without Skipped (without Success (reached_answers (all_flow children) 0 children)))
+    (either (only_if (all_flow children (length children) && some_seen Success children) (only Success)) (only_if (all_skip children) (only Skipped)))
+
+-- whether some child may fail
+abbrev pub some_fails : List Answers → Bool
+some_fails children = list_any (λ (child : Answers). child.failure) children
+
+-- A RoundRobin ends at a child that is reached and succeeds or is RUNNING. It fails where every child may fail or be
+-- skipped, and some child fails; and it is skipped where all are.
+abbrev pub robin_answers : List Answers → Answers
+robin_answers children =
+    either (without Skipped (without Failure (reached_answers (all_end children) 0 children)))
+    (either (only_if (all_pass Failure children (length children) && some_fails children) (only Failure)) (only_if (all_skip children) (only Skipped)))
+
+-- ---- Decorators
 
 -- a Retry or Repeat whose child may answer so, with its limit: without a limit RUNNING is given in place of the answer
 -- after which the child is visited again; a key may hold no limit
@@ -70,11 +89,6 @@ abbrev pub turned : Answer → Option PortValue → Answers → Answers
 turned again (Some (Lit (Int limit))) child = if int_eq limit (negsuc 0) then becoming again Running child else child
 turned again (Some (Key key)) child = either child (becoming again Running child)
 turned again _ child = child
-
--- whether a length is always 0
-abbrev pub is_zero : Option PortValue → Bool
-is_zero (Some (Lit (Int length))) = int_eq length (pos 0)
-is_zero _ = false
 
 -- whether a RunOnce with this `then_skip` never skips
 abbrev pub never_skips : Option PortValue → Bool
@@ -93,6 +107,7 @@ decorator_answers Repeat ports child = turned Success (given ports (codes "num_c
 decorator_answers Timeout ports child = either child (only_if (not (is_zero (given ports (codes "msec")))) (only Failure))
 decorator_answers Delay ports child = either child (only_if (not (is_zero (given ports (codes "delay_msec")))) (only Running))
 decorator_answers RunOnce ports child = either child (only_if (not (never_skips (given ports (codes "then_skip")))) (only Skipped))
+decorator_answers RateController ports child = either child (only Running)
 decorator_answers _ ports child = child
 
 -- ---- All kinds
@@ -108,6 +123,9 @@ rule_answers Parallel ports children = any_answer
 rule_answers (Switch cases) ports children = reached_answers (may_be_selected (always_selected (ports_of (Switch cases)) ports)) 0 children
 rule_answers IfThenElse ports children = branch_answers children
 rule_answers WhileDoElse ports children = branch_answers children
+rule_answers RecoveryNode ports children = recovery_answers ports (answers_at children 0) (answers_at children 1)
+rule_answers PipelineSequence ports children = pipeline_answers children
+rule_answers RoundRobin ports children = robin_answers children
 rule_answers AlwaysSuccess ports children = only Success
 rule_answers ScriptNode ports children = only Success
 rule_answers AlwaysFailure ports children = only Failure

@@ -50,6 +50,8 @@ port_word port.NumCycles = codes "num_cycles"
 port_word port.Msec = codes "msec"
 port_word port.DelayMsec = codes "delay_msec"
 port_word port.ThenSkip = codes "then_skip"
+port_word port.NumberOfRetries = codes "number_of_retries"
+port_word port.Hz = codes "hz"
 
 -- the names of the facts of a world, in the order of their numbers
 abbrev pub fact_names : World → List (List ℕ)

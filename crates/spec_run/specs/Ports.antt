@@ -11,17 +11,18 @@ use Rattle.spec_tree.specs.declared.built_ins.Range.TheVariants as range
 use Rattle.spec_run.specs.declared.fault.PortId.{PortId}
 use Rattle.spec_run.specs.declared.fault.PortId.TheVariants as port
 use Rattle.spec_run.specs.declared.memory.Memo.{Memo}
-use Rattle.spec_run.specs.declared.memory.Memo.TheVariants.{Nothing, Index, Counts, Chosen, Turns, Since, Finished}
+use Rattle.spec_run.specs.declared.memory.Memo.TheVariants.{Nothing, Index, Counts, Chosen, Turns, Since, Finished, Recoveries, Rotation, Pace}
 use Rattle.spec_run.specs.declared.status.Answer.{Answer}
 use Rattle.spec_tree.specs.declared.term.Kind.{Kind}
-use Rattle.spec_tree.specs.declared.term.Kind.TheVariants.{Sequence, SequenceWithMemory, ReactiveSequence, Fallback, ReactiveFallback, Parallel, Switch, IfThenElse, Retry, Repeat, Timeout, Delay, RunOnce}
+use Rattle.spec_tree.specs.declared.term.Kind.TheVariants.{Sequence, SequenceWithMemory, ReactiveSequence, Fallback, ReactiveFallback, Parallel, Switch, IfThenElse, RecoveryNode, PipelineSequence, RoundRobin, Retry, Repeat, Timeout, Delay, RunOnce, RateController}
 use Rattle.spec_tree.specs.declared.term.Port.{Port}
 use Rattle.spec_tree.specs.declared.term.PortValue.{PortValue}
 use Rattle.spec_tree.specs.declared.term.PortValue.TheVariants.{Lit, Key}
 use Rattle.spec_tree.specs.Boards.{port_of}
-use Rattle.spec_tree.specs.BuiltIns.{fits}
+use Rattle.spec_tree.specs.BuiltIns.{fits, rate_of}
 use Rattle.spec_run.specs.Done.{State}
 use Rattle.spec_run.specs.Rules.Decorators.{mark_of}
+use Rattle.spec_run.specs.Rules.RoundRobins.{rotation_at, rotation_of}
 use Rattle.spec_run.specs.Rules.Sequences.{index_of}
 use Rattle.spec_run.specs.Sites.{Site, slot_at}
 
@@ -106,6 +107,32 @@ abbrev pub since_start : PortId → ℕ → Option ℤ → Result Memo PortId
 since_start port now (Some length) = Ok (Since (record { first = now; length = nat_abs length }))
 since_start port now None = Err port
 
+-- a RecoveryNode starts with its first child and no recovery done
+abbrev pub recoveries_start : Option ℤ → Result Memo PortId
+recoveries_start (Some limit) = Ok (Recoveries (record { done = 0; limit = nat_abs limit; recovers = false }))
+recoveries_start None = Err port.NumberOfRetries
+
+-- the rate that a port is given, in thousandths of a hertz: its literal, or so many hertz of a key's entry
+abbrev pub rate_given : PortValue → Option Value → Option ℕ
+rate_given (Lit value) entry = rate_of value
+rate_given (Key key) (Some (Int n)) = rate_of (Int n)
+rate_given (Key key) _ = None
+
+-- the rate of a port as a node has it, where it is one
+abbrev pub rate_by : Site → State → Option PortValue → Option ℕ
+rate_by site s (Some given) = rate_given given (value_by site s (Some given))
+rate_by site s None = None
+
+-- a RateController starts at this moment, and its child is due
+abbrev pub pace_start : ℕ → Option ℕ → Result Memo PortId
+pace_start now (Some rate) = Ok (Pace (record { first = now; rate = rate; due = true }))
+pace_start now None = Err port.Hz
+
+-- a RateController that has a pace goes on with it, and reads no port
+abbrev pub next_pace : Memo → Result Memo PortId → Result Memo PortId
+next_pace (Pace p) start = Ok (Pace p)
+next_pace memo start = start
+
 -- the memo with which a node starts, from the memo that it has; or the port that holds no number of its range
 abbrev pub new_memo : Kind → Site → Memo → State → Result Memo PortId
 new_memo Sequence site memo s = Ok (Index 0 false)
@@ -118,11 +145,15 @@ new_memo Parallel site memo s =
     (threshold (length site.node.children) (number_at site s (codes "failure_count")))
 new_memo (Switch cases) site memo s = Ok (Chosen None)
 new_memo IfThenElse site memo s = Ok (Chosen None)
+new_memo RecoveryNode site memo s = recoveries_start (within range.Recoveries (number_at site s (codes "number_of_retries")))
+new_memo PipelineSequence site memo s = Ok (Index 0 false)
+new_memo RoundRobin site memo s = Ok (Rotation (rotation_at (rotation_of memo).at))
 new_memo Retry site memo s = turns_start port.NumAttempts (within range.Turns (number_at site s (codes "num_attempts")))
 new_memo Repeat site memo s = turns_start port.NumCycles (within range.Turns (number_at site s (codes "num_cycles")))
 new_memo Timeout site memo s = since_start port.Msec s.moment (within range.Duration (number_at site s (codes "msec")))
 new_memo Delay site memo s = since_start port.DelayMsec s.moment (within range.Duration (number_at site s (codes "delay_msec")))
 new_memo RunOnce site memo s = Ok (Finished None)
+new_memo RateController site memo s = next_pace memo (pace_start s.moment (rate_by site s (given_at site (codes "hz"))))
 new_memo _ site memo s = Ok Nothing
 
 -- ---- The child that is picked

@@ -3,5 +3,9 @@ pub mod Choices
 pub mod Decorators
 pub mod Kinds
 pub mod Parallels
+pub mod Pipelines
+pub mod Rates
+pub mod Recoveries
+pub mod RoundRobins
 pub mod Sequences
 pub mod Turns

@@ -5,7 +5,7 @@ use Rattle.spec_run.specs.declared.fault.NodeFault.{NodeFault}
 use Rattle.spec_run.specs.declared.fault.PortId.{PortId}
 use Rattle.spec_run.specs.declared.leaf.Phase.TheVariants as phase
 use Rattle.spec_run.specs.declared.memory.Memo.{Memo}
-use Rattle.spec_run.specs.declared.memory.Memo.TheVariants.{Nothing, Finished}
+use Rattle.spec_run.specs.declared.memory.Memo.TheVariants.{Nothing, Finished, Pace}
 use Rattle.spec_run.specs.declared.memory.Memory.{Memory, out-Memory}
 use Rattle.spec_run.specs.declared.moves.Span.TheVariants.{All}
 use Rattle.spec_run.specs.declared.note.Note.{Note}
@@ -120,6 +120,11 @@ ruled site status memo ms s =
     follow (node_rule site.node.kind site status memo ms s) (λ ms1. remembered status memo ms1)
     (λ g ms1 s1. ended site status g ms1 s1)
 
+-- what a node of this status that is not RUNNING remembers: a RateController that is IDLE has no pace
+abbrev pub remembers : Status → Memo → Memo
+remembers Idle (Pace p) = Nothing
+remembers status memo = memo
+
 -- whether a node starts: one with children does, but for a RunOnce with a mark
 abbrev pub starts : Kind → Memo → Bool
 starts RunOnce (Finished (Some a)) = false
@@ -129,7 +134,7 @@ starts kind memo = has_rule kind
 abbrev pub started : Site → Memory → State → Done Answer Memory
 started site m s =
     following (change site.uid (out-Memory m).status Running) []
-    (follow (ends (or_bad_port site.uid (new_memo site.node.kind site (out-Memory m).memo s)) (out-Memory m).children s)
+    (follow (ends (or_bad_port site.uid (new_memo site.node.kind site (remembers (out-Memory m).status (out-Memory m).memo) s)) (out-Memory m).children s)
     (λ ms. remembered Running (out-Memory m).memo ms) (λ memo ms s1. ruled site Running memo ms s1))
 
 -- a node that is not RUNNING, where no guard has answered
@@ -137,10 +142,10 @@ abbrev pub begun : Bool → Site → Memory → State → Done Answer Memory
 begun true site m s = started site m s
 begun false site m s = ruled site (out-Memory m).status (out-Memory m).memo (out-Memory m).children s
 
--- the answer of a guard leaves the memo as it is
+-- the answer of a guard leaves what the node remembers as it is
 abbrev pub guarded : Option Answer → Site → Memory → State → Done Answer Memory
 guarded (Some a) site m s =
-    ended site (out-Memory m).status (record { answer = a; memo = (out-Memory m).memo }) (out-Memory m).children s
+    ended site (out-Memory m).status (record { answer = a; memo = remembers (out-Memory m).status (out-Memory m).memo }) (out-Memory m).children s
 guarded None site m s = begun (starts site.node.kind (out-Memory m).memo) site m s
 
 -- a RUNNING node goes on, or it is halted and answers SKIPPED, and nothing more

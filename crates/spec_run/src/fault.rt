@@ -8,6 +8,8 @@ pub enum PortId {
     Msec,
     DelayMsec,
     ThenSkip,
+    NumberOfRetries,
+    Hz,
 }
 
 /// Why a visit or a halt faulted.

@@ -15,7 +15,7 @@ pub use block::{Block, Header};
 pub use fault::{Cause, NodeFault, PortId, RunFault};
 pub use join_fault::JoinFault;
 pub use leaf::{DriverKind, Instance, Phase, Reply, Totals};
-pub use memory::{Counts, Memo, Memory, Since, Turns};
+pub use memory::{Counts, Memo, Memory, Pace, Recoveries, Rotation, Since, Turns};
 pub use moves::{Heard, Move, Span, Then};
 pub use note::Note;
 pub use status::{Answer, RoundEnd, Status};

@@ -1,16 +1,17 @@
 -- The built-in nodes: under which name each stands, which elements may write it by its ID, how many children
 -- it has, which ports, and whether it has a script of its own.
-use Rattle.std.specs.Prelude.{ℕ, ◌+◌, pos, negsuc, int_le, List, [], ◌∷◌, length, take, Bool, true, false, ◌&&◌, ◌||◌, nat_eq, nat_le, if◌then◌else◌, codes, Option, Some, None}
+use Rattle.std.specs.Prelude.{ℕ, ◌+◌, ◌*◌, pos, negsuc, int_le, List, [], ◌∷◌, length, take, Bool, true, false, ◌&&◌, ◌||◌, nat_eq, nat_le, if◌then◌else◌, codes, Option, Some, None, is_some}
 use Rattle.std.specs.Ordering.{int_eq}
 use Rattle.std.specs.Str.{bytes_eq}
 use Rattle.spec_script.specs.declared.value.Value.{Value}
 use Rattle.spec_script.specs.declared.value.Value.TheVariants.{Int, Text}
-use Rattle.spec_tree.specs.Limits.{longest_duration, most_text_bytes, most_turns}
+use Rattle.spec_tree.specs.Limits.{longest_duration, most_rate, most_recoveries, most_text_bytes, most_turns}
+use Rattle.spec_tree.specs.Numbers.{thousandths_in}
 use Rattle.spec_tree.specs.declared.built_ins.Class.{Class}
 use Rattle.spec_tree.specs.declared.built_ins.Range.{Range}
-use Rattle.spec_tree.specs.declared.built_ins.Range.TheVariants.{AnyValue, AnyInt, Turns, Duration, Truth}
+use Rattle.spec_tree.specs.declared.built_ins.Range.TheVariants.{AnyValue, AnyInt, Turns, Duration, Truth, Recoveries, Rate}
 use Rattle.spec_tree.specs.declared.term.Kind.{Kind}
-use Rattle.spec_tree.specs.declared.term.Kind.TheVariants.{Sequence, SequenceWithMemory, ReactiveSequence, Fallback, ReactiveFallback, Parallel, Switch, IfThenElse, WhileDoElse, Inverter, ForceSuccess, ForceFailure, KeepRunningUntilFailure, Retry, Repeat, Timeout, Delay, RunOnce, SubTree, AlwaysSuccess, AlwaysFailure, ScriptNode, ScriptCondition, Leaf}
+use Rattle.spec_tree.specs.declared.term.Kind.TheVariants.{Sequence, SequenceWithMemory, ReactiveSequence, Fallback, ReactiveFallback, Parallel, Switch, IfThenElse, WhileDoElse, RecoveryNode, PipelineSequence, RoundRobin, Inverter, ForceSuccess, ForceFailure, KeepRunningUntilFailure, Retry, Repeat, Timeout, Delay, RunOnce, RateController, SubTree, AlwaysSuccess, AlwaysFailure, ScriptNode, ScriptCondition, Leaf}
 use Rattle.spec_tree.specs.declared.built_ins.Class.TheVariants as class
 
 -- the built-in nodes by their names
@@ -29,6 +30,9 @@ named_kinds =
     ∷ (codes "Switch6", Switch 6)
     ∷ (codes "IfThenElse", IfThenElse)
     ∷ (codes "WhileDoElse", WhileDoElse)
+    ∷ (codes "RecoveryNode", RecoveryNode)
+    ∷ (codes "PipelineSequence", PipelineSequence)
+    ∷ (codes "RoundRobin", RoundRobin)
     ∷ (codes "Inverter", Inverter)
     ∷ (codes "ForceSuccess", ForceSuccess)
     ∷ (codes "ForceFailure", ForceFailure)
@@ -38,6 +42,7 @@ named_kinds =
     ∷ (codes "Timeout", Timeout)
     ∷ (codes "Delay", Delay)
     ∷ (codes "RunOnce", RunOnce)
+    ∷ (codes "RateController", RateController)
     ∷ (codes "AlwaysSuccess", AlwaysSuccess)
     ∷ (codes "AlwaysFailure", AlwaysFailure)
     ∷ (codes "Script", ScriptNode)
@@ -89,6 +94,8 @@ ports_of Repeat = required (codes "num_cycles") Turns ∷ []
 ports_of Timeout = required (codes "msec") Duration ∷ []
 ports_of Delay = required (codes "delay_msec") Duration ∷ []
 ports_of RunOnce = with_default (codes "then_skip") Truth (codes "true") ∷ []
+ports_of RecoveryNode = with_default (codes "number_of_retries") Recoveries (codes "1") ∷ []
+ports_of RateController = with_default (codes "hz") Rate (codes "10") ∷ []
 ports_of _ = []
 
 -- the class of each kind
@@ -102,6 +109,9 @@ class_of Parallel = class.Control
 class_of (Switch cases) = class.Control
 class_of IfThenElse = class.Control
 class_of WhileDoElse = class.Control
+class_of RecoveryNode = class.Control
+class_of PipelineSequence = class.Control
+class_of RoundRobin = class.Control
 class_of Inverter = class.Decorator
 class_of ForceSuccess = class.Decorator
 class_of ForceFailure = class.Decorator
@@ -111,6 +121,7 @@ class_of Repeat = class.Decorator
 class_of Timeout = class.Decorator
 class_of Delay = class.Decorator
 class_of RunOnce = class.Decorator
+class_of RateController = class.Decorator
 class_of SubTree = class.SubTree
 class_of AlwaysSuccess = class.Leaf
 class_of AlwaysFailure = class.Leaf
@@ -142,6 +153,7 @@ abbrev pub takes : Kind → ℕ → Bool
 takes (Switch cases) children = nat_eq children (cases + 1)
 takes IfThenElse children = nat_eq children 2 || nat_eq children 3
 takes WhileDoElse children = nat_eq children 2 || nat_eq children 3
+takes RecoveryNode children = nat_eq children 2
 takes kind children = takes_by (class_of kind) children
 
 -- whether a node has a script of its own, its code
@@ -157,7 +169,19 @@ writes name class.Decorator = bytes_eq name (codes "Decorator")
 writes name class.Leaf = bytes_eq name (codes "Action") || bytes_eq name (codes "Condition")
 writes name class.SubTree = false
 
--- whether a literal is within a range: any value, any number, 1 to 1000 or -1, 0 to 4294967295, or a truth value
+-- so many thousandths of a hertz, where a port may have this rate
+abbrev pub rate_within : Option ℕ → Option ℕ
+rate_within (Some rate) = if nat_le 1 rate && nat_le rate most_rate then Some rate else None
+rate_within None = None
+
+-- the rate that a value says, in thousandths of a hertz: a number says so many hertz, and a text may have a point
+abbrev pub rate_of : Value → Option ℕ
+rate_of (Int (pos hertz)) = rate_within (Some (1000 * hertz))
+rate_of (Int (negsuc n)) = None
+rate_of (Text text) = rate_within (thousandths_in text)
+
+-- whether a literal is within a range: any value, any number, 1 to 1000 or -1, 0 to 4294967295, a truth value, 0 to
+-- 1000, or a rate
 abbrev pub fits : Range → Value → Bool
 fits AnyValue (Int n) = true
 fits AnyValue (Text text) = nat_le (length text) most_text_bytes
@@ -169,3 +193,6 @@ fits Duration (Int n) = int_le (pos 0) n && int_le n (pos longest_duration)
 fits Duration (Text text) = false
 fits Truth (Int n) = int_eq n (pos 0) || int_eq n (pos 1)
 fits Truth (Text text) = bytes_eq text (codes "true") || bytes_eq text (codes "false")
+fits Recoveries (Int n) = int_le (pos 0) n && int_le n (pos most_recoveries)
+fits Recoveries (Text text) = false
+fits Rate value = is_some (rate_of value)

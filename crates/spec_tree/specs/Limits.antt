@@ -89,6 +89,14 @@ most_text_bytes = 4096
 abbrev pub most_turns : ℕ
 most_turns = 1000
 
+-- the recoveries of a RecoveryNode
+abbrev pub most_recoveries : ℕ
+most_recoveries = 1000
+
+-- the rate of a RateController, in thousandths of a hertz
+abbrev pub most_rate : ℕ
+most_rate = 1000000
+
 -- the longest duration at a port, in milliseconds
 abbrev pub longest_duration : ℕ
 longest_duration = 4294967295

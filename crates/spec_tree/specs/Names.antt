@@ -8,9 +8,11 @@ abbrev pub built_in_names : List (List ℕ)
 built_in_names =
     codes "Sequence" ∷ codes "SequenceWithMemory" ∷ codes "ReactiveSequence" ∷ codes "Fallback"
     ∷ codes "ReactiveFallback" ∷ codes "Parallel" ∷ codes "Switch2" ∷ codes "Switch3" ∷ codes "Switch4"
-    ∷ codes "Switch5" ∷ codes "Switch6" ∷ codes "IfThenElse" ∷ codes "WhileDoElse" ∷ codes "Inverter"
+    ∷ codes "Switch5" ∷ codes "Switch6" ∷ codes "IfThenElse" ∷ codes "WhileDoElse" ∷ codes "RecoveryNode"
+    ∷ codes "PipelineSequence" ∷ codes "RoundRobin" ∷ codes "Inverter"
     ∷ codes "ForceSuccess" ∷ codes "ForceFailure" ∷ codes "KeepRunningUntilFailure"
     ∷ codes "RetryUntilSuccessful" ∷ codes "Repeat" ∷ codes "Timeout" ∷ codes "Delay" ∷ codes "RunOnce"
+    ∷ codes "RateController"
     ∷ codes "AlwaysSuccess" ∷ codes "AlwaysFailure" ∷ codes "Script" ∷ codes "ScriptCondition" ∷ []
 
 -- the names that the file format keeps for itself

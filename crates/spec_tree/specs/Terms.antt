@@ -10,7 +10,7 @@ use Rattle.spec_tree.specs.declared.term.PortValue.{PortValue}
 use Rattle.spec_tree.specs.declared.term.PortValue.TheVariants.{Lit, Key}
 use Rattle.spec_tree.specs.declared.term.Term.{Term, fold-Term}
 use Rattle.spec_tree.specs.declared.term.Kind.{Kind}
-use Rattle.spec_tree.specs.declared.term.Kind.TheVariants.{Leaf, Repeat, Retry, SubTree}
+use Rattle.spec_tree.specs.declared.term.Kind.TheVariants.{Leaf, RecoveryNode, Repeat, Retry, SubTree}
 
 -- the nodes of a term: a node, and those of its children
 abbrev pub node_count : Term → ℕ
@@ -29,8 +29,8 @@ own_leaf_id _ id = []
 abbrev pub leaf_ids : Term → List (List ℕ)
 leaf_ids = fold-Term (List (List ℕ)) (λ node. own_leaf_id node.kind node.id ++ flat_map (λ ids. ids) node.children)
 
--- how often a Retry or a Repeat visits its child at most in one visit: by its one port, once where it counts nothing,
--- and 1000 times where a key is read
+-- how often a Retry or a Repeat visits its child at most in one visit, and a RecoveryNode its second child: by its one
+-- port, once where it counts nothing, and 1000 times where a key is read
 abbrev pub turns_given : PortValue → ℕ
 turns_given (Key key) = most_turns
 turns_given (Lit (Int n)) = if int_eq n (negsuc 0) then 1 else unsigned_abs n
@@ -45,11 +45,18 @@ turns_of (port ∷ ports) = turns_given port.value
 abbrev pub times_of : Kind → List Port → ℕ
 times_of Retry ports = turns_of ports
 times_of Repeat ports = turns_of ports
+times_of RecoveryNode ports = turns_of ports
 times_of kind ports = 1
+
+-- the work of the child that is visited once more than the others, where these are the works of the children: the
+-- first one of a RecoveryNode, with which its visit begins
+abbrev pub once_more : Kind → List ℕ → ℕ
+once_more RecoveryNode (first ∷ others) = first
+once_more kind works = 0
 
 -- the work of a term: how many visits one visit of its root makes at most
 abbrev pub work_of : Term → ℕ
-work_of = fold-Term ℕ (λ node. 1 + times_of node.kind node.ports * sum node.children)
+work_of = fold-Term ℕ (λ node. 1 + (times_of node.kind node.ports * sum node.children + once_more node.kind node.children))
 
 -- the scopes that a node opens: a SubTree node opens one
 abbrev pub own_scopes : Kind → ℕ

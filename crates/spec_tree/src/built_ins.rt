@@ -21,4 +21,8 @@ pub enum Range {
     Duration,
     /// `true`, `false`, `1` or `0`.
     Truth,
+    /// 0 to 1000.
+    Recoveries,
+    /// 0.001 to 1000 hertz, with at most three digits after the point.
+    Rate,
 }

@@ -2,12 +2,16 @@
 
 ghost use Rattle.std.specs.Prelude.{IsTrue, ◌<◌, ℕ, false};
 ghost use Rattle.base_tables.specs.BuiltInRows.{is_control, is_decorator};
-ghost use Rattle.base_tables.specs.Moves.{Fits, FitsChild, FitsStart, IsThere, TurnIsLeft};
+ghost use Rattle.base_tables.specs.Moves.{Fits, FitsChild, FitsStart, HasChildAtHand, IsThere, RecoveryIsLeft, TurnIsLeft};
 ghost use Rattle.spec_run.specs.Rules.Choices.{chosen_of};
+ghost use Rattle.spec_run.specs.Rules.Recoveries.{recoveries_of};
+ghost use Rattle.spec_run.specs.Rules.RoundRobins.{rotation_of};
 ghost use Rattle.spec_run.specs.Rules.Turns.{limit_of, turns_of};
 
 use run_moves::{control_next, decorator_next, goes_to_next};
-use spec_run::{Answer, Counts, Heard, Memo, Move, Since, Span, Then, Turns};
+use spec_run::{
+    Answer, Counts, Heard, Memo, Move, Pace, Recoveries, Rotation, Since, Span, Then, Turns,
+};
 use spec_tree::Kind;
 use std::alloc::{AllocError, Global};
 use std::process::Abort;
@@ -26,6 +30,16 @@ fn memo_text(alloc: Global, memo: Memo) -> Result<String, AllocError> {
         Memo::Since(s) => format!(in alloc; " {} from {}", s.length, s.first),
         Memo::Finished(Some(answer)) => format!(in alloc; " mark {answer:?}"),
         Memo::Finished(None) => format!(in alloc; " no mark"),
+        Memo::Recoveries(r) if r.recovers => {
+            format!(in alloc; " recovers {} of {}", r.done, r.limit)
+        }
+        Memo::Recoveries(r) => format!(in alloc; " tries {} of {}", r.done, r.limit),
+        Memo::Rotation(r) => format!(in alloc;
+            " at {}, {} passed {} skipped",
+            r.at, r.passed, r.skipped
+        ),
+        Memo::Pace(p) if p.due => format!(in alloc; " due {} from {}", p.rate, p.first),
+        Memo::Pace(p) => format!(in alloc; " {} from {}", p.rate, p.first),
     }
 }
 
@@ -83,6 +97,26 @@ fn is_there(n: u32, memo: Memo) -> bool
     }
 }
 
+/// Whether a recovery is left to a RecoveryNode with this memo.
+fn recovery_is_left(memo: Memo) -> bool
+    ensures { IsTrue result → RecoveryIsLeft (recoveries_of memo) }
+{
+    match memo {
+        Memo::Recoveries(r) => r.limit <= 1000 && (!r.recovers || r.done < r.limit),
+        _ => true,
+    }
+}
+
+/// Whether the child at hand of a RoundRobin is one of `n` children, and at least one is left.
+fn has_child_at_hand(n: u32, memo: Memo) -> bool
+    ensures { IsTrue result → HasChildAtHand n (rotation_of memo) }
+{
+    match memo {
+        Memo::Rotation(r) => r.at < n && r.passed < n && r.skipped <= r.passed,
+        _ => n > 0,
+    }
+}
+
 /// Whether a visit of a control node can begin with this memo and this pick.
 fn may_start(kind: Kind, memo: Memo, n: u32, picked: u32) -> bool
     ensures control { IsTrue result → IsTrue (is_control kind) }
@@ -98,6 +132,9 @@ fn may_start(kind: Kind, memo: Memo, n: u32, picked: u32) -> bool
         Kind::Switch(_) => picked < n,
         Kind::IfThenElse => n >= 2 && is_there(n, memo),
         Kind::WhileDoElse => n >= 2,
+        Kind::RecoveryNode => n == 2 && recovery_is_left(memo),
+        Kind::PipelineSequence => true,
+        Kind::RoundRobin => has_child_at_hand(n, memo),
         _ => false,
     }
 }
@@ -832,6 +869,188 @@ fn while_do_else(rt: HostRuntime) -> Result<(), Fail> {
     Ok(())
 }
 
+/// The memo of a RecoveryNode.
+fn recoveries(done: u32, limit: u32, recovers: bool) -> Memo {
+    Memo::Recoveries(Recoveries {
+        done,
+        limit,
+        recovers,
+    })
+}
+
+/// Visits of a RecoveryNode.
+#[test]
+fn recovery_node(rt: HostRuntime) -> Result<(), Fail> {
+    let alloc = rt.alloc();
+    for (kind, memo, picked, lines) in [
+        (
+            Kind::RecoveryNode,
+            recoveries(0, 2, false),
+            0,
+            "2 R 0 Running tries 0 of 2
+             2 S 0 All Success
+             2 K 0 All Skipped
+             2 FR 0 One(0) 1 Running recovers 0 of 2
+             2 FF 0 One(0) 1 All Failure
+             2 FK 0 One(0) 1 All Failure
+             2 FSS 0 One(0) 1 One(1) 0 All Success
+             2 FSK 0 One(0) 1 One(1) 0 All Skipped
+             2 FSR 0 One(0) 1 One(1) 0 Running tries 1 of 2
+             2 FSFF 0 One(0) 1 One(1) 0 One(0) 1 All Failure
+             2 FSFR 0 One(0) 1 One(1) 0 One(0) 1 Running recovers 1 of 2
+             2 FSFSR 0 One(0) 1 One(1) 0 One(0) 1 One(1) 0 Running tries 2 of 2
+             2 FSFSS 0 One(0) 1 One(1) 0 One(0) 1 One(1) 0 All Success
+             2 FSFSF 0 One(0) 1 One(1) 0 One(0) 1 One(1) 0 All Failure",
+        ),
+        (
+            Kind::RecoveryNode,
+            recoveries(0, 1, false),
+            0,
+            "2 FF 0 One(0) 1 All Failure
+             2 FSF 0 One(0) 1 One(1) 0 All Failure
+             2 FSS 0 One(0) 1 One(1) 0 All Success",
+        ),
+        (
+            Kind::RecoveryNode,
+            recoveries(0, 0, false),
+            0,
+            "2 F 0 All Failure
+             2 S 0 All Success",
+        ),
+        (
+            Kind::RecoveryNode,
+            recoveries(2, 2, false),
+            0,
+            "2 R 0 Running tries 2 of 2
+             2 F 0 All Failure",
+        ),
+        (
+            Kind::RecoveryNode,
+            recoveries(1, 2, true),
+            0,
+            "2 R 1 Running recovers 1 of 2
+             2 F 1 All Failure
+             2 K 1 All Failure
+             2 SR 1 One(1) 0 Running tries 2 of 2
+             2 SF 1 One(1) 0 All Failure
+             2 SS 1 One(1) 0 All Success",
+        ),
+    ] {
+        controls(&rt, alloc, kind, memo, picked, lines)?;
+    }
+    Ok(())
+}
+
+/// Visits of a PipelineSequence.
+#[test]
+fn pipeline_sequence(rt: HostRuntime) -> Result<(), Fail> {
+    let alloc = rt.alloc();
+    for (kind, memo, picked, lines) in [
+        (
+            Kind::PipelineSequence,
+            Memo::Index { at: 0, seen: false },
+            0,
+            "1 R 0 Running at 0 seen
+             1 S 0 All Success
+             1 F 0 All Failure
+             1 K 0 All Skipped
+             3 R 0 Running at 0 seen
+             3 F 0 All Failure
+             3 SR 0 1 Running at 1 seen
+             3 SF 0 1 All Failure
+             3 KR 0 1 Running at 1 seen
+             3 SSR 0 1 2 Running at 2 seen
+             3 SSS 0 1 2 All Success
+             3 SSF 0 1 2 All Failure
+             3 KSK 0 1 2 All Success
+             3 KKK 0 1 2 All Skipped",
+        ),
+        (
+            Kind::PipelineSequence,
+            Memo::Index { at: 1, seen: true },
+            0,
+            "3 SR 0 1 Running at 1 seen
+             3 RR 0 1 Running at 1 seen
+             3 RF 0 1 All Failure
+             3 RSR 0 1 2 Running at 2 seen
+             3 RSS 0 1 2 All Success
+             3 KKK 0 1 2 All Skipped
+             3 RKK 0 1 2 All Success",
+        ),
+        (
+            Kind::PipelineSequence,
+            Memo::Index { at: 2, seen: true },
+            0,
+            "3 F 0 All Failure
+             3 RF 0 1 All Failure
+             3 RRR 0 1 2 Running at 2 seen
+             3 RRS 0 1 2 All Success
+             3 SRS 0 1 2 All Success
+             3 RRF 0 1 2 All Failure
+             3 KKR 0 1 2 Running at 2 seen
+             3 KKK 0 1 2 All Skipped",
+        ),
+    ] {
+        controls(&rt, alloc, kind, memo, picked, lines)?;
+    }
+    Ok(())
+}
+
+/// The memo of a RoundRobin.
+fn rotation(at: u32, passed: u32, skipped: u32) -> Memo {
+    Memo::Rotation(Rotation {
+        at,
+        passed,
+        skipped,
+    })
+}
+
+/// Visits of a RoundRobin.
+#[test]
+fn round_robin(rt: HostRuntime) -> Result<(), Fail> {
+    let alloc = rt.alloc();
+    for (kind, memo, picked, lines) in [
+        (
+            Kind::RoundRobin,
+            rotation(0, 0, 0),
+            0,
+            "1 R 0 Running at 0, 0 passed 0 skipped
+             1 S 0 All Success at 0, 0 passed 0 skipped
+             1 F 0 All Failure
+             1 K 0 All Skipped
+             3 S 0 All Success at 1, 0 passed 0 skipped
+             3 FS 0 One(0) 1 All Success at 2, 0 passed 0 skipped
+             3 FR 0 One(0) 1 Running at 1, 1 passed 0 skipped
+             3 KFR 0 One(0) 1 One(1) 2 Running at 2, 2 passed 1 skipped
+             3 KFS 0 One(0) 1 One(1) 2 All Success at 0, 0 passed 0 skipped
+             3 FFF 0 One(0) 1 One(1) 2 All Failure
+             3 KFK 0 One(0) 1 One(1) 2 All Failure
+             3 KKK 0 One(0) 1 One(1) 2 All Skipped",
+        ),
+        (
+            Kind::RoundRobin,
+            rotation(2, 0, 0),
+            0,
+            "3 R 2 Running at 2, 0 passed 0 skipped
+             3 S 2 All Success at 0, 0 passed 0 skipped
+             3 FS 2 One(2) 0 All Success at 1, 0 passed 0 skipped
+             3 FKF 2 One(2) 0 One(0) 1 All Failure",
+        ),
+        (
+            Kind::RoundRobin,
+            rotation(1, 2, 2),
+            0,
+            "3 R 1 Running at 1, 2 passed 2 skipped
+             3 S 1 All Success at 2, 0 passed 0 skipped
+             3 F 1 All Failure
+             3 K 1 All Skipped",
+        ),
+    ] {
+        controls(&rt, alloc, kind, memo, picked, lines)?;
+    }
+    Ok(())
+}
+
 /// Whether a turn is left to a Retry or Repeat with this memo.
 fn turn_is_left(memo: Memo) -> bool
     ensures { IsTrue result → TurnIsLeft (turns_of memo).done (limit_of (turns_of memo).limit) }
@@ -858,6 +1077,7 @@ fn may_decorate(kind: Kind, memo: Memo, picked: u32) -> bool
         Kind::Timeout => true,
         Kind::Delay => true,
         Kind::RunOnce => true,
+        Kind::RateController => true,
         _ => false,
     }
 }
@@ -1149,6 +1369,87 @@ fn run_once(rt: HostRuntime) -> Result<(), Fail> {
             0,
             1,
             "1 . Skipped mark Failure",
+        ),
+    ] {
+        decorators(&rt, alloc, kind, memo, now, picked, lines)?;
+    }
+    Ok(())
+}
+
+/// The memo of a RateController with this rate in thousandths of a hertz, whose child has succeeded at
+/// `first`, in milliseconds.
+fn paced(first: u64, rate: u32) -> Memo {
+    Memo::Pace(Pace {
+        first,
+        rate,
+        due: false,
+    })
+}
+
+/// Visits of a RateController.
+#[test]
+fn rate_controller(rt: HostRuntime) -> Result<(), Fail> {
+    let alloc = rt.alloc();
+    let due = Memo::Pace(Pace {
+        first: 5,
+        rate: 1000,
+        due: true,
+    });
+    for (kind, memo, now, picked, lines) in [
+        (
+            Kind::RateController,
+            due,
+            7,
+            0,
+            "1 R 0 Running due 1000 from 5
+             1 S 0 All Success 1000 from 7
+             1 F 0 All Failure 1000 from 5
+             1 K 0 All Skipped",
+        ),
+        (
+            Kind::RateController,
+            paced(5, 1000),
+            1004,
+            0,
+            "1 . Running 1000 from 5",
+        ),
+        (
+            Kind::RateController,
+            paced(5, 1000),
+            1005,
+            0,
+            "1 R 0 Running due 1000 from 5
+             1 S 0 All Success 1000 from 1005
+             1 F 0 All Failure 1000 from 5
+             1 K 0 All Skipped",
+        ),
+        (
+            Kind::RateController,
+            paced(0, 3),
+            333_333,
+            0,
+            "1 . Running 3 from 0",
+        ),
+        (
+            Kind::RateController,
+            paced(0, 3),
+            333_334,
+            0,
+            "1 S 0 All Success 3 from 333334",
+        ),
+        (
+            Kind::RateController,
+            paced(0, 1_000_000),
+            1,
+            0,
+            "1 S 0 All Success 1000000 from 1",
+        ),
+        (
+            Kind::RateController,
+            paced(0, 1_000_000),
+            1_000_000_000_000_000_000,
+            0,
+            "1 S 0 All Success 1000000 from 1000000000000000000",
         ),
     ] {
         decorators(&rt, alloc, kind, memo, now, picked, lines)?;

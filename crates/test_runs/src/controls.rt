@@ -19,7 +19,7 @@ node 1 SUCCESS IDLE
 finish 1 at 0
 Done";
 
-const ALL_SKIPPED: &str = "\
+pub const ALL_SKIPPED: &str = "\
 tick 1 at 0
 node 1 IDLE RUNNING
 node 1 RUNNING IDLE

@@ -14,6 +14,8 @@ mod halts;
 #[cfg(test)]
 mod mocks;
 #[cfg(test)]
+mod navigation;
+#[cfg(test)]
 mod runners;
 #[cfg(test)]
 mod scripts;

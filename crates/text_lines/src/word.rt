@@ -19,6 +19,8 @@ pub fn port_word(port: PortId) -> &'static [u8]
         PortId::Msec => b"msec",
         PortId::DelayMsec => b"delay_msec",
         PortId::ThenSkip => b"then_skip",
+        PortId::NumberOfRetries => b"number_of_retries",
+        PortId::Hz => b"hz",
     }
 }
 

@@ -3,7 +3,7 @@ use Rattle.std.proofs.Common.{◌≡◌, ℕ, Bool, true, false, List, [], ◌�
 use Rattle.std.specs.Prelude.{bytes_eq, if◌then◌else◌}
 use Rattle.std.specs.List.{list_all, AllByRecursion}
 use Rattle.spec_tree.specs.declared.term.Kind.{Kind}
-use Rattle.spec_tree.specs.declared.term.Kind.TheVariants.{Sequence, SequenceWithMemory, ReactiveSequence, Fallback, ReactiveFallback, Parallel, Switch, IfThenElse, WhileDoElse, Inverter, ForceSuccess, ForceFailure, KeepRunningUntilFailure, Retry, Repeat, Timeout, Delay, RunOnce, AlwaysSuccess, AlwaysFailure, ScriptNode, ScriptCondition}
+use Rattle.spec_tree.specs.declared.term.Kind.TheVariants.{Sequence, SequenceWithMemory, ReactiveSequence, Fallback, ReactiveFallback, Parallel, Switch, IfThenElse, WhileDoElse, RecoveryNode, PipelineSequence, RoundRobin, Inverter, ForceSuccess, ForceFailure, KeepRunningUntilFailure, Retry, Repeat, Timeout, Delay, RunOnce, RateController, AlwaysSuccess, AlwaysFailure, ScriptNode, ScriptCondition}
 use Rattle.spec_tree.specs.declared.term.Port.{Port}
 use Rattle.spec_tree.specs.BuiltIns.{has_code, kind_among, kind_named, named_kinds, ports_of, switch_ports}
 use Rattle.spec_tree.specs.Names.{is_among}
@@ -166,6 +166,39 @@ fine_WhileDoElse = record {
   fit = λ ports a b. both_true (list_all (is_one_of (ports_of WhileDoElse)) ports) (list_all (λ rule. is_among rule.name (names_of ports)) (ports_of WhileDoElse)) a b;
 }
 
+fine_RecoveryNode : Fine RecoveryNode
+unfolding switch_ports
+fine_RecoveryNode = record {
+  own = (λ v f. f, tt);
+  texts = refl;
+  written = (refl, tt);
+  id = λ id h. h;
+  rules = λ models id. refl;
+  fit = λ ports a b. both_true (list_all (is_one_of (ports_of RecoveryNode)) ports) (list_all (λ rule. is_among rule.name (names_of ports)) (ports_of RecoveryNode)) a b;
+}
+
+fine_PipelineSequence : Fine PipelineSequence
+unfolding switch_ports
+fine_PipelineSequence = record {
+  own = tt;
+  texts = refl;
+  written = tt;
+  id = λ id h. h;
+  rules = λ models id. refl;
+  fit = λ ports a b. both_true (list_all (is_one_of (ports_of PipelineSequence)) ports) (list_all (λ rule. is_among rule.name (names_of ports)) (ports_of PipelineSequence)) a b;
+}
+
+fine_RoundRobin : Fine RoundRobin
+unfolding switch_ports
+fine_RoundRobin = record {
+  own = tt;
+  texts = refl;
+  written = tt;
+  id = λ id h. h;
+  rules = λ models id. refl;
+  fit = λ ports a b. both_true (list_all (is_one_of (ports_of RoundRobin)) ports) (list_all (λ rule. is_among rule.name (names_of ports)) (ports_of RoundRobin)) a b;
+}
+
 fine_Inverter : Fine Inverter
 unfolding switch_ports
 fine_Inverter = record {
@@ -265,6 +298,17 @@ fine_RunOnce = record {
   fit = λ ports a b. both_true (list_all (is_one_of (ports_of RunOnce)) ports) (list_all (λ rule. is_among rule.name (names_of ports)) (ports_of RunOnce)) a b;
 }
 
+fine_RateController : Fine RateController
+unfolding switch_ports
+fine_RateController = record {
+  own = (λ v f. f, tt);
+  texts = refl;
+  written = (refl, tt);
+  id = λ id h. h;
+  rules = λ models id. refl;
+  fit = λ ports a b. both_true (list_all (is_one_of (ports_of RateController)) ports) (list_all (λ rule. is_among rule.name (names_of ports)) (ports_of RateController)) a b;
+}
+
 fine_AlwaysSuccess : Fine AlwaysSuccess
 unfolding switch_ports
 fine_AlwaysSuccess = record {
@@ -311,7 +355,7 @@ fine_ScriptCondition = record {
 
 all_fine : AllByRecursion (λ row. Fine row.1) named_kinds
 unfolding named_kinds
-all_fine = (fine_Sequence, (fine_SequenceWithMemory, (fine_ReactiveSequence, (fine_Fallback, (fine_ReactiveFallback, (fine_Parallel, (fine_Switch2, (fine_Switch3, (fine_Switch4, (fine_Switch5, (fine_Switch6, (fine_IfThenElse, (fine_WhileDoElse, (fine_Inverter, (fine_ForceSuccess, (fine_ForceFailure, (fine_KeepRunningUntilFailure, (fine_Retry, (fine_Repeat, (fine_Timeout, (fine_Delay, (fine_RunOnce, (fine_AlwaysSuccess, (fine_AlwaysFailure, (fine_ScriptNode, (fine_ScriptCondition, tt))))))))))))))))))))))))))
+all_fine = (fine_Sequence, (fine_SequenceWithMemory, (fine_ReactiveSequence, (fine_Fallback, (fine_ReactiveFallback, (fine_Parallel, (fine_Switch2, (fine_Switch3, (fine_Switch4, (fine_Switch5, (fine_Switch6, (fine_IfThenElse, (fine_WhileDoElse, (fine_RecoveryNode, (fine_PipelineSequence, (fine_RoundRobin, (fine_Inverter, (fine_ForceSuccess, (fine_ForceFailure, (fine_KeepRunningUntilFailure, (fine_Retry, (fine_Repeat, (fine_Timeout, (fine_Delay, (fine_RunOnce, (fine_RateController, (fine_AlwaysSuccess, (fine_AlwaysFailure, (fine_ScriptNode, (fine_ScriptCondition, tt))))))))))))))))))))))))))))))
 
 lift_by : (row rest_row : Kind) (b : Bool) (o : Option Kind) → ◌≡◌ {A = Option Kind} (if b then Some row else o) (Some rest_row) → Fine row → (o ≡ Some rest_row → Fine rest_row) → Fine rest_row
 lift_by row k true o h f rest = subst Fine (some_same row k h) f

@@ -13,6 +13,7 @@ pub mod PortTexts
 pub mod ReadLaw
 pub mod ScriptAnswers
 pub mod ScriptFits
+pub mod ShortTexts
 pub mod Sizes
 pub mod Tables
 pub mod Walk

@@ -1,10 +1,12 @@
 ghost use Rattle.std.specs.Prelude.{◌≡◌, ◌+◌, ◌*◌, ◌≤◌, ◌<◌, ◌^◌, min, nat_le};
-ghost use Rattle.spec_tree.specs.Terms.{times_of, turns_given, turns_of, work_of};
+ghost use Rattle.std.specs.Option.{option_to_list};
+ghost use Rattle.spec_tree.specs.Terms.{once_more, times_of, turns_given, turns_of, work_of};
 
 use spec_script::Value;
 use spec_tree::{Kind, Port, PortValue, Term, Tree};
 
-/// How often a Retry or a Repeat whose limit this is visits its child at most in one visit.
+/// How often a Retry or a Repeat whose limit this is visits its child at most in one visit, and a
+/// RecoveryNode its second child.
 fn turns_given(value: &PortValue) -> u64
     ensures { result ≡ turns_given value.now }
 {
@@ -15,7 +17,7 @@ fn turns_given(value: &PortValue) -> u64
     }
 }
 
-/// How often a Retry or a Repeat with these ports does; its limit is the first.
+/// How often such a node with these ports does; its limit is the first.
 fn turns_of(ports: &[Port]) -> u64
     ensures { result ≡ turns_of ports.now }
 {
@@ -30,17 +32,32 @@ fn times_of(kind: Kind, ports: &[Port]) -> u64
     ensures { result ≡ times_of kind ports.now }
 {
     match kind {
-        Kind::Retry | Kind::Repeat => turns_of(ports),
+        Kind::Retry | Kind::Repeat | Kind::RecoveryNode => turns_of(ports),
         _ => 1,
     }
 }
 
-/// One visit, and so many times the visits below, up to `most`.
-fn with_own(times: u64, below: u64, most: u64) -> u64
-    requires { most < 2 ^ 33 }
-    ensures { result ≡ min most (1 + times * below) }
+/// The work of the child that a node visits once more than the others, by that of its first child.
+fn once_more(kind: Kind, first: Option<u64>) -> u64
+    ensures { result ≡ once_more kind (option_to_list first) }
 {
-    most.min(times.saturating_mul(below).saturating_add(1))
+    match (kind, first) {
+        (Kind::RecoveryNode, Some(work)) => work,
+        _ => 0,
+    }
+}
+
+/// One visit, so many times the visits below, and those of a child once more, up to `most`.
+fn with_own(times: u64, below: u64, more: u64, most: u64) -> u64
+    requires { most < 2 ^ 33 }
+    ensures { result ≡ min most (1 + (times * below + more)) }
+{
+    most.min(
+        times
+            .saturating_mul(below)
+            .saturating_add(more)
+            .saturating_add(1),
+    )
 }
 
 /// The work of the term, up to `most`.
@@ -49,10 +66,14 @@ fn work_up_to(term: &Term, most: u64) -> u64
     ensures { result ≡ min most (work_of term.now) }
 {
     let mut below = 0;
+    let mut first = None;
     for child in term.children.list() {
-        below = most.min(below + work_up_to(child, most));
+        let work = work_up_to(child, most);
+        first = first.or(Some(work));
+        below = most.min(below + work);
     }
-    with_own(times_of(term.kind, term.ports.list()), below, most)
+    let times = times_of(term.kind, term.ports.list());
+    with_own(times, below, once_more(term.kind, first), most)
 }
 
 /// Whether one visit of the term's root makes at most so many visits.

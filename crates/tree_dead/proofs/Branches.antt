@@ -25,8 +25,8 @@ use Rattle.spec_run.specs.Steps.{Rule, keep, over, reset, visit}
 use Rattle.spec_run.specs.Visit.{status_of}
 use Rattle.spec_dead.specs.declared.answers.Answers.{Answers}
 use Rattle.spec_dead.specs.Answers.{becoming, either, may, only, only_if, without}
-use Rattle.spec_dead.specs.Reached.{always_selected, answers_at, branch_reached, may_be_selected}
-use Rattle.spec_dead.specs.Rules.{branch_answers, given, is_zero, never_skips, otherwise, rule_answers, turned}
+use Rattle.spec_dead.specs.Reached.{always_selected, answers_at, branch_reached, given, is_zero, may_be_selected}
+use Rattle.spec_dead.specs.Rules.{branch_answers, never_skips, otherwise, rule_answers, turned}
 use Rattle.tree_dead.proofs.Fits.{Begins, IsBranch, IsLength, IsLimit, MayEnd, MayGoOn, MemoOf, RestsWith}
 use Rattle.tree_dead.proofs.RoundSteps.{reached_has}
 use Rattle.tree_dead.proofs.Rounds.{Gives}

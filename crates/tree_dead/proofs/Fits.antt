@@ -5,15 +5,17 @@ use Rattle.std.specs.Ordering.{int_eq}
 use Rattle.spec_script.specs.declared.syntax.Script.{Script}
 use Rattle.spec_script.specs.declared.value.Value.TheVariants.{Int}
 use Rattle.spec_run.specs.declared.memory.Memo.{Memo}
-use Rattle.spec_run.specs.declared.memory.Memo.TheVariants.{Index, Finished}
+use Rattle.spec_run.specs.declared.memory.Memo.TheVariants.{Index, Finished, Rotation as Rotating}
 use Rattle.spec_run.specs.declared.memory.Memory.{Memory, out-Memory}
+use Rattle.spec_run.specs.declared.memory.Recoveries.{Recoveries}
+use Rattle.spec_run.specs.declared.memory.Rotation.{Rotation}
 use Rattle.spec_run.specs.declared.status.Answer.{Answer}
 use Rattle.spec_run.specs.declared.status.Answer.TheVariants as answer
 use Rattle.spec_run.specs.declared.status.Status.{Status}
 use Rattle.spec_run.specs.declared.status.Status.TheVariants as status
 use Rattle.spec_tree.specs.declared.term.Guards.{Guards}
 use Rattle.spec_tree.specs.declared.term.Kind.{Kind}
-use Rattle.spec_tree.specs.declared.term.Kind.TheVariants.{Sequence, SequenceWithMemory, Fallback, IfThenElse, Switch, Retry, Repeat, Timeout, Delay, RunOnce, ScriptNode, ScriptCondition, Leaf}
+use Rattle.spec_tree.specs.declared.term.Kind.TheVariants.{Sequence, SequenceWithMemory, Fallback, IfThenElse, Switch, RecoveryNode, RoundRobin, Retry, Repeat, Timeout, Delay, RunOnce, ScriptNode, ScriptCondition, Leaf}
 use Rattle.spec_tree.specs.declared.term.Port.{Port}
 use Rattle.spec_tree.specs.declared.term.PortValue.{PortValue}
 use Rattle.spec_tree.specs.declared.term.PortValue.TheVariants.{Lit, Key}
@@ -21,14 +23,16 @@ use Rattle.spec_tree.specs.declared.term.Term.{Term, Term-F, rec-Term}
 use Rattle.spec_world.specs.declared.world.Row.{Row}
 use Rattle.spec_run.specs.Rules.Choices.{chosen_of}
 use Rattle.spec_run.specs.Rules.Decorators.{mark_of, since_of}
+use Rattle.spec_run.specs.Rules.Recoveries.{recoveries_of}
+use Rattle.spec_run.specs.Rules.RoundRobins.{rotation_of}
 use Rattle.spec_run.specs.Rules.Sequences.{index_of, seen_of}
 use Rattle.spec_run.specs.Rules.Turns.{turns_of}
 use Rattle.spec_run.specs.Visit.{meaning}
 use Rattle.spec_dead.specs.declared.answers.Answers.{Answers}
 use Rattle.spec_dead.specs.Dead.{outlook}
 use Rattle.spec_dead.specs.Guards.{answers_after, before_rule}
-use Rattle.spec_dead.specs.Reached.{all_pass, answers_at, reaches}
-use Rattle.spec_dead.specs.Rules.{given, is_zero, last_skips, rule_answers, some_seen}
+use Rattle.spec_dead.specs.Reached.{all_before, all_end, all_pass, answers_at, given, is_zero, may_pass, may_recover, reaches}
+use Rattle.spec_dead.specs.Rules.{last_skips, rule_answers, some_fails, some_seen}
 use Rattle.tree_dead.specs.Runs.{HasRow}
 use Rattle.tree_dead.proofs.Sets.{Has}
 
@@ -56,8 +60,7 @@ may_visit n reached place = reached && (before_rule n.guards).goes_on && reaches
 
 -- all children before a place may be skipped
 abbrev pub all_skip_before : List Answers → ℕ → Bool
-all_skip_before children zero = true
-all_skip_before children (suc place) = all_skip_before children place && (answers_at children place).skipped
+all_skip_before children place = all_before (λ (child : Answers). child.skipped) children place
 
 -- a round that goes on after this answer has come to a place: all children before may let it go on, and one of them may
 -- be seen where one was
@@ -97,11 +100,33 @@ IsLimit given (negsuc n) = MayGoOn given
 abbrev pub IsLength : Option PortValue → ℕ → Type 0
 IsLength given length = is_zero given ≡ true → length ≡ 0
 
+-- a RecoveryNode has its second child at hand where that may be reached
+pub record Recovers (ports : List Port) (children : List Answers) (r : Recoveries) : Type 0 where
+  pub limit : IsLength (given ports (codes "number_of_retries")) r.limit
+  pub recovers : r.recovers ≡ true → may_recover ports (answers_at children 0) ≡ true
+
+-- something holds of so many of n children that stand before the one at hand, going round
+pub record WentRound (n : ℕ) (Holds : ℕ → Type 0) (at passed : ℕ) : Type 0 where
+  pub before : (k : ℕ) → k < at → at ≤ k + passed → Holds k
+  pub after : (k : ℕ) → at ≤ k → k < n → at + n ≤ k + passed → Holds k
+
+-- a RoundRobin has come to the child at hand: those that were passed may have failed or been skipped, and one of them may
+-- fail where not all were skipped
+pub record CameRound (children : List Answers) (r : Rotation) : Type 0 where
+  pub inside : r.at < length children
+  pub reached : all_end children r.at ≡ true
+  pub few : r.skipped ≤ r.passed
+  pub passed : WentRound (length children) (λ k. may_pass answer.Failure (answers_at children k) ≡ true) r.at r.passed
+  pub skipped : r.skipped ≡ r.passed → WentRound (length children) (λ k. (answers_at children k).skipped ≡ true) r.at r.passed
+  pub failed : r.skipped < r.passed → some_fails children ≡ true
+
 -- the memo with which the rule of a node can begin
 abbrev pub Begins : Kind → List Port → List Answers → Memo → Type 0
 Begins Sequence ports children memo = CameTo answer.Success (SkipsAll children) children (index_of memo) (seen_of memo)
 Begins Fallback ports children memo = CameTo answer.Failure (SkipsAll children) children (index_of memo) (seen_of memo)
 Begins SequenceWithMemory ports children memo = CameTo answer.Success (SkipsLast children) children (index_of memo) (seen_of memo)
+Begins RecoveryNode ports children memo = Recovers ports children (recoveries_of memo)
+Begins RoundRobin ports children memo = CameRound children (rotation_of memo) × ((rotation_of memo).passed < length children)
 Begins IfThenElse ports children memo = IfSome (chosen_of memo) (IsBranch children)
 Begins Retry ports children memo = IsLimit (given ports (codes "num_attempts")) (turns_of memo).limit
 Begins Repeat ports children memo = IsLimit (given ports (codes "num_cycles")) (turns_of memo).limit
@@ -113,6 +138,7 @@ Begins _ ports children memo = Unit {0}
 -- the memo that a node keeps that is not RUNNING
 abbrev pub RestsWith : Kind → List Answers → Memo → Type 0
 RestsWith SequenceWithMemory children (Index at seen) = (all_pass answer.Success children at ≡ true) × (at < length children)
+RestsWith RoundRobin children (Rotating r) = (all_end children r.at ≡ true) × (r.at < length children)
 RestsWith RunOnce children (Finished (Some a)) = Has a (answers_at children 0)
 RestsWith kind children memo = Unit {0}
 
@@ -132,10 +158,11 @@ abbrev pub HasOwnRow : Kind → List Row → List ℕ → Type 0
 HasOwnRow Leaf rows id = HasRow rows id
 HasOwnRow kind rows id = Unit {0}
 
--- a Switch has a child after its cases, and a child for each case
+-- a Switch has a child after its cases, and a child for each case; and nodes that keep a child at hand have one
 abbrev pub FewCases : Kind → ℕ → Type 0
 FewCases (Switch cases) children = (cases < 7) × (children ≡ cases + 1)
 FewCases SequenceWithMemory children = 0 < children
+FewCases RoundRobin children = 0 < children
 FewCases kind children = Unit {0}
 
 -- what a node has for its rule

@@ -5,7 +5,7 @@ use Rattle.spec_run.specs.declared.memory.Memo.{Memo}
 use Rattle.spec_run.specs.declared.status.Answer.{Answer}
 use Rattle.spec_run.specs.declared.status.Answer.TheVariants as answer
 use Rattle.spec_tree.specs.declared.term.Kind.{Kind}
-use Rattle.spec_tree.specs.declared.term.Kind.TheVariants.{Sequence, SequenceWithMemory, ReactiveSequence, Fallback, ReactiveFallback, Parallel, Switch, IfThenElse, WhileDoElse, Inverter, ForceSuccess, ForceFailure, KeepRunningUntilFailure, Retry, Repeat, Timeout, Delay, RunOnce, SubTree}
+use Rattle.spec_tree.specs.declared.term.Kind.TheVariants.{Sequence, SequenceWithMemory, ReactiveSequence, Fallback, ReactiveFallback, Parallel, Switch, IfThenElse, WhileDoElse, RecoveryNode, PipelineSequence, RoundRobin, Inverter, ForceSuccess, ForceFailure, KeepRunningUntilFailure, Retry, Repeat, Timeout, Delay, RunOnce, RateController, SubTree}
 use Rattle.spec_tree.specs.declared.term.Port.{Port}
 use Rattle.spec_world.specs.declared.world.Row.{Row}
 use Rattle.spec_tree.specs.BuiltIns.{has_rule, ports_of}
@@ -13,14 +13,21 @@ use Rattle.spec_run.specs.Rules.Choices.{chosen_of}
 use Rattle.spec_run.specs.Rules.Decorators.{as_it_is, forced, inverted, mark_of}
 use Rattle.spec_run.specs.Rules.Kinds.{rule}
 use Rattle.spec_run.specs.Rules.Parallels.{counts_of}
+use Rattle.spec_run.specs.Rules.Rates.{pace_of}
+use Rattle.spec_run.specs.Rules.Recoveries.{recoveries_of}
+use Rattle.spec_run.specs.Rules.RoundRobins.{rotation_of}
 use Rattle.spec_run.specs.Rules.Sequences.{index_of, seen_of}
 use Rattle.spec_run.specs.Rules.Turns.{turns_of}
 use Rattle.spec_dead.specs.declared.answers.Answers.{Answers}
 use Rattle.spec_dead.specs.Answers.{becoming, exchanged}
-use Rattle.spec_dead.specs.Reached.{always_selected, answers_at, may_be_selected, reaches}
-use Rattle.spec_dead.specs.Rules.{given, never_skips}
+use Rattle.spec_dead.specs.Reached.{always_selected, answers_at, given, may_be_selected, reaches}
+use Rattle.spec_dead.specs.Rules.{never_skips}
 use Rattle.tree_dead.proofs.Branches.{becomes_in, child_fits, delay_fits, if_fits, keep_running_fits, run_once_fits, stays_in, switch_fits, timeout_fits, turns_fit, while_fits}
 use Rattle.tree_dead.proofs.Fits.{Begins}
+use Rattle.tree_dead.proofs.Pipelines.{pipeline_fits}
+use Rattle.tree_dead.proofs.Rates.{rate_fits}
+use Rattle.tree_dead.proofs.Recovering.{recovery_fits}
+use Rattle.tree_dead.proofs.RoundRobins.{robin_fits}
 use Rattle.tree_dead.proofs.Rounds.{Gives, memory_fits, parallel_fits, reactive_fits, sequence_fits}
 use Rattle.tree_dead.proofs.Sets.{Has}
 use Rattle.tree_dead.proofs.Words.{Children, Goes, answers_here}
@@ -72,6 +79,10 @@ module _ (is_dead : ℕ → Bool) (rows : List Row) (n : Children is_dead rows) 
   kind_fits (Switch cases) e begins pick comes = switch_fits is_dead rows n cases ports comes (chosen_of memo) picked pick.0 pick.1
   kind_fits IfThenElse e begins pick comes = if_fits is_dead rows n ports comes (chosen_of memo) begins
   kind_fits WhileDoElse e begins pick comes = while_fits is_dead rows n ports comes memo
+  kind_fits RecoveryNode e begins pick comes = recovery_fits is_dead rows n ports comes (recoveries_of memo) begins
+  kind_fits PipelineSequence e begins pick comes = pipeline_fits is_dead rows n ports comes (index_of memo)
+  kind_fits RoundRobin e begins pick comes = robin_fits is_dead rows n ports comes (rotation_of memo) begins.0 begins.1
+  kind_fits RateController e begins pick comes = rate_fits is_dead rows n (comes 0 refl) ports (pace_of memo) now
   kind_fits SubTree e begins pick comes = child_fits is_dead rows n (comes 0 refl) SubTree ports as_it_is memo (λ a has. has) tt tt
   kind_fits Inverter e begins pick comes = child_fits is_dead rows n (comes 0 refl) Inverter ports inverted memo (λ a has. exchanged_has a (answers_at all 0) has) tt tt
   kind_fits ForceSuccess e begins pick comes = child_fits is_dead rows n (comes 0 refl) ForceSuccess ports (forced answer.Success) memo (λ a has. success_has a (answers_at all 0) has) tt tt

@@ -11,6 +11,10 @@ pub mod Opening
 pub mod Parts
 pub mod Passing
 pub mod Picks
+pub mod Pipelines
+pub mod Rates
+pub mod Recovering
+pub mod RoundRobins
 pub mod RoundSteps
 pub mod Rounds
 pub mod Seats

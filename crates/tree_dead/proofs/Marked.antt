@@ -4,7 +4,6 @@ use Rattle.std.proofs.lemmas.List.{append_assoc, drop_more}
 use Rattle.std.proofs.lemmas.List.Sums.{sum_by-cons}
 use Rattle.std.proofs.Math.ListN.{get_or}
 use Rattle.std.proofs.Math.Seq.{get_or-append_seam}
-use Rattle.spec_run.specs.declared.status.Answer.{Answer}
 use Rattle.spec_run.specs.declared.status.Answer.TheVariants.{Skipped}
 use Rattle.spec_tree.specs.declared.term.Kind.{Kind}
 use Rattle.spec_tree.specs.declared.term.Port.{Port}
@@ -15,10 +14,10 @@ use Rattle.spec_dead.specs.declared.guarding.Guarding.{Guarding}
 use Rattle.spec_dead.specs.Answers.{only}
 use Rattle.spec_dead.specs.Dead.{Outlook, answers_of, marks_below, outlook, outlook_of_node}
 use Rattle.spec_dead.specs.Guards.{answers_after, before_rule}
-use Rattle.spec_dead.specs.Reached.{all_pass, answers_at, may_pass, reaches}
+use Rattle.spec_dead.specs.Reached.{all_before, answers_at, reaches}
 use Rattle.spec_dead.specs.Rules.{rule_answers}
-use Rattle.tree_dead.specs.Steps.{goes_of}
-use Rattle.tree_dead.proofs.Passing.{all_pass_next}
+use Rattle.tree_dead.specs.Steps.{lets_on}
+use Rattle.tree_dead.proofs.Passing.{all_before_next}
 
 -- the terms from one on
 pub terms_here : (ts : List Term) (i : ℕ) (t : Term) → i < length ts → t ≡ get_or ts i t → drop i ts ≡ t ∷ drop (i + 1) ts
@@ -45,9 +44,9 @@ heard_here heard all t ts rest place here many known =
     ∙ ap (λ (xs : List Answers). answers_at xs (length heard)) (sym (ap (λ (xs : List Term). heard ++ all_answers xs) (sym here) ∙ known))
     ∙ get_or-append_seam heard (outlook t).answers (all_answers rest) (only Skipped)
 
-pub passes_more : (goes : Answer) (all : List Answers) (place : ℕ) (passes passes1 : Bool) (a b : Answers) → answers_at all place ≡ b → a ≡ b → passes ≡ all_pass goes all place → passes1 ≡ (passes && may_pass goes a) → passes1 ≡ all_pass goes all (place + 1)
-passes_more goes all place passes passes1 a b here is known next =
-    next ∙ ap (λ (p : Bool). p && may_pass goes a) known ∙ ap (λ (x : Answers). all_pass goes all place && may_pass goes x) (is ∙ sym here) ∙ sym (all_pass_next goes all place)
+pub passes_more : (holds : Answers → Bool) (all : List Answers) (place : ℕ) (passes passes1 : Bool) (a b : Answers) → answers_at all place ≡ b → a ≡ b → passes ≡ all_before holds all place → passes1 ≡ (passes && holds a) → passes1 ≡ all_before holds all (place + 1)
+passes_more holds all place passes passes1 a b here is known next =
+    next ∙ ap (λ (p : Bool). p && holds a) known ∙ ap (λ (x : Answers). all_before holds all place && holds x) (is ∙ sym here) ∙ sym (all_before_next holds all place)
 
 pub marks_more : (visits : ℕ → Bool) (place : ℕ) (marks marks1 all : List Bool) (comes : Bool) (t : Term) (ts rest : List Term) → ts ≡ t ∷ rest → comes ≡ visits place →
     marks1 ≡ marks ++ (outlook t).marks comes → marks ++ marks_below visits place (map outlook ts) ≡ all → marks1 ++ marks_below visits (place + 1) (map outlook rest) ≡ all
@@ -88,12 +87,12 @@ count_of_node t ts is = fold_out-Term ℕ (λ node. 1 + sum node.children) t ∙
 -- ---- What the code found out
 
 -- a child that comes after those that were heard may be visited by the rule
-pub rule_here : (kind : Kind) (ports : List Port) (heard view later all : List Answers) (place : ℕ) (passes found : Bool) → view ≡ heard → length heard ≡ place → heard ++ later ≡ all → passes ≡ all_pass (goes_of kind) all place →
-    (passes ≡ all_pass (goes_of kind) (view ++ later) (length view) → found ≡ reaches kind ports (view ++ later) (length view)) → found ≡ reaches kind ports all place
-rule_here kind ports heard view later all place passes found same many known passing finds =
+pub rule_here : (kind : Kind) (own ports : List Port) (heard view later all : List Answers) (place : ℕ) (passes found : Bool) → own ≡ ports → view ≡ heard → length heard ≡ place → heard ++ later ≡ all →
+    passes ≡ all_before (lets_on kind) all place → (passes ≡ all_before (lets_on kind) (view ++ later) (length view) → found ≡ reaches kind own (view ++ later) (length view)) → found ≡ reaches kind ports all place
+rule_here kind own ports heard view later all place passes found is same many known passing finds =
     let whole : view ++ later ≡ all = ap (λ (xs : List Answers). xs ++ later) same ∙ known in
     let number : length view ≡ place = ap length same ∙ many in
-    finds (passing ∙ sym (λ i. all_pass (goes_of kind) (whole i) (number i))) ∙ (λ i. reaches kind ports (whole i) (number i))
+    finds (passing ∙ sym (λ i. all_before (lets_on kind) (whole i) (number i))) ∙ (λ i. reaches kind (is i) (whole i) (number i))
 
 pub comes_here : (before before1 : Guarding) (reached by_rule by_rule1 comes : Bool) → before ≡ before1 → by_rule ≡ by_rule1 → comes ≡ (reached && before.goes_on && by_rule) → comes ≡ (reached && before1.goes_on && by_rule1)
 comes_here before before1 reached by_rule by_rule1 comes same rule is = is ∙ (λ i. reached && (same i).goes_on && rule i)

@@ -11,7 +11,7 @@ use Rattle.spec_run.specs.declared.memory.Memo.TheVariants.{Nothing}
 use Rattle.spec_run.specs.declared.memory.Memory.{Memory, Memory-F, out-roll-Memory}
 use Rattle.spec_run.specs.declared.status.Status.TheVariants.{Idle}
 use Rattle.spec_tree.specs.declared.term.Kind.{Kind}
-use Rattle.spec_tree.specs.declared.term.Kind.TheVariants.{SequenceWithMemory, Switch, RunOnce, ScriptNode, ScriptCondition, Leaf}
+use Rattle.spec_tree.specs.declared.term.Kind.TheVariants.{SequenceWithMemory, Switch, RoundRobin, ScriptNode, ScriptCondition, Leaf}
 use Rattle.spec_tree.specs.declared.term.Term.{Term, Term-F, fold-roll-Term}
 use Rattle.spec_tree.specs.declared.term.Term.TheFolds.{map-Term}
 use Rattle.spec_world.specs.declared.world.Row.{Row}
@@ -24,9 +24,10 @@ use Rattle.base_tables.proofs.Runnable.{few_named}
 use Rattle.spec_dead.specs.declared.answers.Answers.{Answers}
 use Rattle.spec_dead.specs.Dead.{Outlook, marks_below, outlook, reaches_child}
 use Rattle.tree_dead.specs.Runs.{HasRow}
-use Rattle.tree_dead.proofs.Fits.{Claims, FewCases, HasCode, HasOwnRow, NodeStands, RestsWith, StandAll, Stands, about_of, may_visit, stands_of_node}
+use Rattle.tree_dead.proofs.Fits.{Claims, FewCases, HasCode, HasOwnRow, NodeStands, StandAll, Stands, about_of, may_visit, stands_of_node}
 use Rattle.run_laws.proofs.Induction.{above, idle_of_terms, map_twice, node_means}
 use Rattle.tree_dead.proofs.Induction.{every_term, node_outlook}
+use Rattle.tree_dead.proofs.Picks.{nothing_rests}
 
 -- ---- What a node has for its rule
 
@@ -49,12 +50,8 @@ rows_below rows _ id ids all = all
 few_cases : (kind : Kind) (id : List ℕ) (children : ℕ) → IdFits kind id → IsTrue (takes kind children) → FewCases kind children
 few_cases (Switch cases) id children named few = let most : cases ≤ 6 = few_named (Switch cases) id named in (omega (arith, most), eqb-true children (cases + 1) few)
 few_cases SequenceWithMemory id children named few = let some : 1 ≤ children = leb-true 1 children few in omega (arith, some)
+few_cases RoundRobin id children named few = let some : 1 ≤ children = leb-true 1 children few in omega (arith, some)
 few_cases _ id children named few = tt
-
-nothing_rests : (kind : Kind) (children : List Answers) → RestsWith kind children Nothing
-nothing_rests SequenceWithMemory children = tt
-nothing_rests RunOnce children = tt
-nothing_rests _ children = tt
 
 front_all : {X : Type 0} (P : X → Type 0) (xs ys : List X) → AllByRecursion P (xs ++ ys) → AllByRecursion P xs
 front_all P [] ys all = tt

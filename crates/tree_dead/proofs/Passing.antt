@@ -2,25 +2,24 @@
 use Rattle.std.proofs.Common.{◌≡◌, ℕ, suc, ◌+◌, ◌<◌, List, length, drop, Bool, true, false, ◌&&◌, ◌||◌, refl, sym, ap, subst, ◌∙◌, arith}
 use Rattle.std.proofs.lemmas.List.{drop_more, get_or_default}
 use Rattle.std.proofs.Math.ListN.{get_or}
-use Rattle.spec_run.specs.declared.status.Answer.{Answer}
 use Rattle.spec_run.specs.declared.status.Answer.TheVariants.{Skipped}
 use Rattle.spec_dead.specs.declared.answers.Answers.{Answers}
 use Rattle.spec_dead.specs.Answers.{either, only, only_if}
-use Rattle.spec_dead.specs.Reached.{all_pass, answers_at, may_pass}
+use Rattle.spec_dead.specs.Reached.{all_before, answers_at}
 use Rattle.spec_dead.specs.Rules.{reached_answers}
 
--- whether all children before a place may let their round go on, from one place to the next
-pub all_pass_next : (goes : Answer) (children : List Answers) (place : ℕ) → all_pass goes children (place + 1) ≡ (all_pass goes children place && may_pass goes (answers_at children place))
-all_pass_next goes children place =
+-- what holds of all children before a place, from one place to the next
+pub all_before_next : (holds : Answers → Bool) (children : List Answers) (place : ℕ) → all_before holds children (place + 1) ≡ (all_before holds children place && holds (answers_at children place))
+all_before_next holds children place =
     let next : suc place ≡ place + 1 = omega arith in
-    subst (λ (k : ℕ). all_pass goes children k ≡ (all_pass goes children place && may_pass goes (answers_at children place))) next refl
+    subst (λ (k : ℕ). all_before holds children k ≡ (all_before holds children place && holds (answers_at children place))) next refl
 
-pub passes_next : (goes : Answer) (children : List Answers) (place : ℕ) (d : Answers) (passes passes1 : Bool) → place < length children → passes ≡ all_pass goes children place →
-    passes1 ≡ (passes && may_pass goes (get_or children place d)) → passes1 ≡ all_pass goes children (place + 1)
-passes_next goes children place d passes passes1 within known next =
-    next ∙ ap (λ (b : Bool). b && may_pass goes (get_or children place d)) known
-    ∙ ap (λ (a : Answers). all_pass goes children place && may_pass goes a) (get_or_default children place d (only Skipped) within)
-    ∙ sym (all_pass_next goes children place)
+pub passes_next : (holds : Answers → Bool) (children : List Answers) (place : ℕ) (d : Answers) (passes passes1 : Bool) → place < length children → passes ≡ all_before holds children place →
+    passes1 ≡ (passes && holds (get_or children place d)) → passes1 ≡ all_before holds children (place + 1)
+passes_next holds children place d passes passes1 within known next =
+    next ∙ ap (λ (b : Bool). b && holds (get_or children place d)) known
+    ∙ ap (λ (a : Answers). all_before holds children place && holds a) (get_or_default children place d (only Skipped) within)
+    ∙ sym (all_before_next holds children place)
 
 or_thrice : (b c d : Bool) → (b || c) || d ≡ b || (c || d)
 or_thrice true c d = refl

@@ -11,24 +11,28 @@ use Rattle.spec_tree.specs.declared.built_ins.Range.TheVariants as range
 use Rattle.spec_run.specs.declared.fault.PortId.{PortId}
 use Rattle.spec_run.specs.declared.fault.PortId.TheVariants as port
 use Rattle.spec_run.specs.declared.memory.Memo.{Memo}
-use Rattle.spec_run.specs.declared.memory.Memo.TheVariants.{Index, Turns as Turned, Since as Begun, Finished}
+use Rattle.spec_run.specs.declared.memory.Memo.TheVariants.{Nothing, Index, Turns as Turned, Since as Begun, Finished, Recoveries as Recovered, Rotation as Rotating, Pace as Paced}
 use Rattle.spec_run.specs.declared.status.Answer.{Answer}
 use Rattle.spec_run.specs.declared.status.Answer.TheVariants as answer
+use Rattle.spec_run.specs.declared.status.Status.{Status}
+use Rattle.spec_run.specs.declared.status.Status.TheVariants as status
 use Rattle.spec_tree.specs.declared.term.Kind.{Kind}
-use Rattle.spec_tree.specs.declared.term.Kind.TheVariants.{Sequence, SequenceWithMemory, Fallback, Parallel, Switch, Retry, Repeat, Timeout, Delay, RunOnce, AlwaysSuccess, AlwaysFailure, ScriptNode, ScriptCondition, Leaf}
+use Rattle.spec_tree.specs.declared.term.Kind.TheVariants.{Sequence, SequenceWithMemory, Fallback, Parallel, Switch, RecoveryNode, RoundRobin, Retry, Repeat, Timeout, Delay, RunOnce, RateController, AlwaysSuccess, AlwaysFailure, ScriptNode, ScriptCondition, Leaf}
 use Rattle.spec_tree.specs.declared.term.Port.{Port}
 use Rattle.spec_tree.specs.declared.term.PortValue.{PortValue}
 use Rattle.spec_tree.specs.declared.term.PortValue.TheVariants.{Lit, Key}
 use Rattle.spec_tree.specs.BuiltIns.{fits}
 use Rattle.spec_run.specs.Done.{State}
-use Rattle.spec_run.specs.Ports.{given_at, new_memo, number_at, number_by, parallel_start, picked, run_once_picked, since_start, then_skip, turns_start, value_by, within}
+use Rattle.spec_run.specs.Ports.{given_at, new_memo, next_pace, number_at, number_by, pace_start, parallel_start, picked, rate_by, recoveries_start, run_once_picked, since_start, then_skip, turns_start, value_by, within}
 use Rattle.spec_run.specs.Rules.Decorators.{mark_of}
+use Rattle.spec_run.specs.Rules.RoundRobins.{rotation_at, rotation_of}
 use Rattle.spec_run.specs.Rules.Sequences.{index_of}
 use Rattle.spec_run.specs.Sites.{Site}
-use Rattle.spec_run.specs.Visit.{cleared, starts}
+use Rattle.spec_run.specs.Visit.{cleared, remembers, starts}
 use Rattle.spec_dead.specs.declared.answers.Answers.{Answers}
+use Rattle.spec_dead.specs.Reached.{all_end}
 use Rattle.spec_dead.specs.Rules.{never_skips}
-use Rattle.tree_dead.proofs.Fits.{Begins, CameTo, FewCases, IsLength, IsLimit, RestsWith, SkipsAll, SkipsLast}
+use Rattle.tree_dead.proofs.Fits.{Begins, CameRound, CameTo, FewCases, IsLength, IsLimit, RestsWith, SkipsAll, SkipsLast, WentRound}
 use Rattle.tree_dead.proofs.KindRules.{PickFits}
 use Rattle.tree_dead.proofs.Selecting.{selected_within, selects}
 
@@ -90,6 +94,23 @@ module _ (site : Site) (s : State) (children : List Answers) where
   since_start_fits id o (Some n) P is goes =
       cond_both (fits range.Duration (Int n)) (Some n) None (λ (x : Option ℤ). IfOk (since_start id s.moment x) P) (λ _. goes (nat_abs n) (length_is o n is)) (λ _. tt)
 
+  recoveries_start_fits : (o : Option PortValue) (number : Option ℤ) → number_by (value_by site s o) ≡ number → ((n : ℤ) → IsLength o (nat_abs n) → Begins RecoveryNode site.node.ports children (Recovered (record { done = 0; limit = nat_abs n; recovers = false }))) →
+      IfOk (recoveries_start (within range.Recoveries number)) (λ next. Begins RecoveryNode site.node.ports children next)
+  recoveries_start_fits o None is goes = tt
+  recoveries_start_fits o (Some n) is goes =
+      cond_both (fits range.Recoveries (Int n)) (Some n) None (λ (x : Option ℤ). IfOk (recoveries_start x) (λ next. Begins RecoveryNode site.node.ports children next)) (λ _. goes n (length_is o n is)) (λ _. tt)
+
+  -- no child was passed
+  none_passed : (Holds : ℕ → Type 0) (at : ℕ) → WentRound (length children) Holds at 0
+  none_passed Holds at = record { before = λ k earlier near. absurd (omega (arith, earlier, near)); after = λ k later within near. absurd (omega (arith, within, near)) }
+
+  from_child : (at : ℕ) → all_end children at ≡ true → at < length children → CameRound children (rotation_at at)
+  from_child at reached inside = record { inside = inside; reached = reached; few = omega arith; passed = none_passed _ at; skipped = λ all. none_passed _ at; failed = λ some. absurd (omega (arith, some)) }
+
+  from_rotation : (memo : Memo) → RestsWith RoundRobin children memo → 0 < length children → Begins RoundRobin site.node.ports children (Rotating (rotation_at (rotation_of memo).at))
+  from_rotation (Rotating r) rests some = (from_child r.at rests.0 rests.1, some)
+  from_rotation _ rests some = (from_child 0 refl some, some)
+
   from_first : (goes : Answer) → CameTo goes (SkipsAll children) children 0 false
   from_first goes = record { inside = omega arith; passed = refl; saw = λ e. cc; skipped = λ e. refl }
 
@@ -108,6 +129,15 @@ module _ (site : Site) (s : State) (children : List Answers) where
       parallel_starts (Some need) skips (Some most) = tt
       parallel_starts (Some need) skips None = tt
       parallel_starts None skips most = tt
+  starts_fit RecoveryNode memo few rests =
+      recoveries_start_fits (given_at site (codes "number_of_retries")) (number_at site s (codes "number_of_retries")) refl (λ n is. record { limit = is; recovers = λ e. cc })
+  starts_fit RoundRobin memo few rests = from_rotation memo rests few
+  starts_fit RateController memo few rests = paces memo (rate_by site s (given_at site (codes "hz")))
+    where
+      paces : (memo : Memo) (rate : Option ℕ) → IfOk (next_pace memo (pace_start s.moment rate)) (λ next. Unit {0})
+      paces (Paced p) rate = tt
+      paces _ (Some rate) = tt
+      paces _ None = tt
   starts_fit Retry memo few rests = turns_start_fits port.NumAttempts (given_at site (codes "num_attempts")) (number_at site s (codes "num_attempts")) (λ next. Begins Retry site.node.ports children next) refl (λ n is. is)
   starts_fit Repeat memo few rests = turns_start_fits port.NumCycles (given_at site (codes "num_cycles")) (number_at site s (codes "num_cycles")) (λ next. Begins Repeat site.node.ports children next) refl (λ n is. is)
   starts_fit Timeout memo few rests = since_start_fits port.Msec (given_at site (codes "msec")) (number_at site s (codes "msec")) (λ next. Begins Timeout site.node.ports children next) refl (λ n is. is)
@@ -131,9 +161,26 @@ cleared_rests RunOnce ports children memo begins = marked memo begins
     marked : (memo : Memo) → Begins RunOnce ports children memo → RestsWith RunOnce children (cleared memo)
     marked (Finished (Some a)) begins = begins
     marked _ begins = tt
+cleared_rests RoundRobin ports children memo begins = forgets memo
+  where
+    forgets : (memo : Memo) → RestsWith RoundRobin children (cleared memo)
+    forgets (Finished (Some a)) = tt
+    forgets _ = tt
 cleared_rests SequenceWithMemory ports children memo begins = forgets memo
   where
     forgets : (memo : Memo) → RestsWith SequenceWithMemory children (cleared memo)
     forgets (Finished (Some a)) = tt
     forgets _ = tt
 cleared_rests _ ports children memo begins = tt
+
+-- no memo may be kept
+pub nothing_rests : (kind : Kind) (children : List Answers) → RestsWith kind children Nothing
+nothing_rests SequenceWithMemory children = tt
+nothing_rests RoundRobin children = tt
+nothing_rests RunOnce children = tt
+nothing_rests _ children = tt
+
+-- what a node remembers may be kept
+pub remembers_rests : (st : Status) (kind : Kind) (children : List Answers) (memo : Memo) → RestsWith kind children memo → RestsWith kind children (remembers st memo)
+remembers_rests status.Idle kind children (Paced p) rests = nothing_rests kind children
+remembers_rests _ kind children _ rests = rests

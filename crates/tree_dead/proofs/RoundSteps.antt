@@ -11,10 +11,10 @@ use Rattle.spec_run.specs.Rules.Sequences.{passes, round, round_after}
 use Rattle.spec_run.specs.Steps.{Given, Rule}
 use Rattle.spec_dead.specs.declared.answers.Answers.{Answers}
 use Rattle.spec_dead.specs.Answers.{either, may, only, only_if, without}
-use Rattle.spec_dead.specs.Reached.{all_pass, answers_at, may_pass}
+use Rattle.spec_dead.specs.Reached.{all_before, all_pass, answers_at, may_pass}
 use Rattle.spec_dead.specs.Rules.{reached_answers, round_answers, some_seen}
 use Rattle.tree_dead.proofs.Fits.{CameTo}
-use Rattle.tree_dead.proofs.Passing.{all_pass_next}
+use Rattle.tree_dead.proofs.Passing.{all_before_next}
 use Rattle.tree_dead.proofs.Sets.{Has, either_left, either_right, if_so, only_has}
 use Rattle.tree_dead.proofs.Words.{Children, Goes, answers_here, visit_goes}
 
@@ -31,7 +31,7 @@ reached_has reached first (c ∷ cs) (suc place) a comes within has =
     either_right a (only_if (reached first) c) (reached_answers reached (first + 1) cs) (reached_has reached (first + 1) cs place a (ap reached here ∙ comes) (omega (arith, within)) has)
 
 -- a child that may be seen
-seen_here : (goes : Answer) (children : List Answers) (place : ℕ) → place < length children → may goes (answers_at children place) || (answers_at children place).running ≡ true → some_seen goes children ≡ true
+pub seen_here : (goes : Answer) (children : List Answers) (place : ℕ) → place < length children → may goes (answers_at children place) || (answers_at children place).running ≡ true → some_seen goes children ≡ true
 seen_here goes [] place within is = absurd (omega (arith, within))
 seen_here goes (c ∷ cs) zero within is = or_left (may goes c || c.running) (some_seen goes cs) is
 seen_here goes (c ∷ cs) (suc place) within is = or_right (may goes c || c.running) (some_seen goes cs) (seen_here goes cs place (omega (arith, within)) is)
@@ -55,8 +55,15 @@ stops_without answer.Skipped answer.Success set stop has = has
 stops_without answer.Skipped answer.Failure set stop has = has
 stops_without answer.Skipped answer.Skipped set stop has = cc
 
+-- an answer of a child that is reached and ends the round
+pub stopped_in : (holds : Answers → Bool) (goes : Answer) (children : List Answers) (place : ℕ) (a : Answer) → place < length children → all_before holds children place ≡ true → passes goes a ≡ false → Has a (answers_at children place) →
+    Has a (without answer.Skipped (without goes (reached_answers (all_before holds children) 0 children)))
+stopped_in holds goes children place a within came stop has =
+    let here : 0 + place ≡ place = omega arith in
+    stops_without goes a (reached_answers (all_before holds children) 0 children) stop (reached_has (all_before holds children) 0 children place a (ap (all_before holds children) here ∙ came) within has)
+
 -- an answer that lets a round go on is one that may
-passes_may : (goes a : Answer) (set : Answers) → passes goes a ≡ true → Has a set → may_pass goes set ≡ true
+pub passes_may : (goes a : Answer) (set : Answers) → passes goes a ≡ true → Has a set → may_pass goes set ≡ true
 passes_may goes a set on has = by goes a on has
   where
     by : (goes a : Answer) → passes goes a ≡ true → Has a set → may_pass goes set ≡ true
@@ -112,9 +119,7 @@ module _ (goes : Answer) (children : List Answers) where
 
     pub stop_in : (place : ℕ) (a : Answer) → place < length children → all_pass goes children place ≡ true → passes goes a ≡ false → Has a (answers_at children place) → Has a set
     stop_in place a within passed stop has =
-        let here : 0 + place ≡ place = omega arith in
-        either_left a stopping (either ending (only_if skips (only answer.Skipped)))
-        (stops_without goes a (reached_answers (all_pass goes children) 0 children) stop (reached_has (all_pass goes children) 0 children place a (ap (all_pass goes children) here ∙ passed) within has))
+        either_left a stopping (either ending (only_if skips (only answer.Skipped))) (stopped_in (may_pass goes) goes children place a within passed stop has)
 
     pub end_in : all_pass goes children (length children) ≡ true → some_seen goes children ≡ true → Has goes set
     end_in passed saw =
@@ -150,7 +155,7 @@ module _ (goes : Answer) (children : List Answers) where
     pub came_on : (place : ℕ) (seen : Bool) (a : Answer) → place < length children → CameTo goes skips children place seen → passes goes a ≡ true → Has a (answers_at children place) → CameTo goes skips children (place + 1) (seen || is_seen a)
     came_on place seen a within came on has = record {
       inside = omega (arith, within);
-      passed = all_pass_next goes children place ∙ and_from (all_pass goes children place) (may_pass goes (answers_at children place)) came.passed (passes_may goes a (answers_at children place) on has);
+      passed = all_before_next (may_pass goes) children place ∙ and_from (all_pass goes children place) (may_pass goes (answers_at children place)) came.passed (passes_may goes a (answers_at children place) on has);
       saw = saw_next place seen a within came on has;
       skipped = skipped_next place seen a within came has;
     }

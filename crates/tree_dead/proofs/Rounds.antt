@@ -29,7 +29,7 @@ Gives kind ports children g = Has g.answer (rule_answers kind ports children) ×
 
 -- ---- Skipped children
 
-skips_more : (children : List Answers) (place : ℕ) → place < length children → SkipsAll children place → (answers_at children place).skipped ≡ true → SkipsAll children (place + 1)
+pub skips_more : (children : List Answers) (place : ℕ) → place < length children → SkipsAll children place → (answers_at children place).skipped ≡ true → SkipsAll children (place + 1)
 skips_more children place within before here =
     let next : suc place ≡ place + 1 = omega arith in
     subst (λ (k : ℕ). SkipsAll children k) next (and_from (all_skip_before children place) (answers_at children place).skipped before here)
@@ -42,7 +42,7 @@ skips_parts c cs (suc place) e =
     let first : (c.skipped ≡ true) × (all_skip_before cs place ≡ true) = skips_parts c cs place parts.0 in
     (first.0, and_from (all_skip_before cs place) (answers_at cs place).skipped first.1 parts.1)
 
-skips_whole : (children : List Answers) → all_skip_before children (length children) ≡ true → all_skip children ≡ true
+pub skips_whole : (children : List Answers) → all_skip_before children (length children) ≡ true → all_skip children ≡ true
 skips_whole [] e = refl
 skips_whole (c ∷ cs) e =
     let parts : (c.skipped ≡ true) × (all_skip_before cs (length cs) ≡ true) = skips_parts c cs (length cs) e in

@@ -32,7 +32,7 @@ use Rattle.spec_run.specs.NodeScripts.{goes_on, guards_answer, posts, script_hol
 use Rattle.base_tables.specs.Shapes.{is_running}
 use Rattle.spec_run.specs.Sites.{Meaning, Site, View, children_of, remembered, view_below}
 use Rattle.spec_run.specs.Steps.{Given, resets}
-use Rattle.spec_run.specs.Visit.{begun, change, cleared, continued, ended, guarded, halt, halt_notes, halt_state, halted, kind_rule, node_rule, or_bad_port, reset_by, ruled, site_of, starts, status_of, visit_by}
+use Rattle.spec_run.specs.Visit.{begun, change, cleared, continued, ended, guarded, halt, halt_notes, halt_state, halted, kind_rule, node_rule, or_bad_port, remembers, reset_by, ruled, site_of, starts, status_of, visit_by}
 use Rattle.spec_dead.specs.Answers.{only_if}
 use Rattle.spec_dead.specs.Guards.{before_rule, constant_of}
 use Rattle.spec_dead.specs.Reached.{reaches}
@@ -41,7 +41,7 @@ use Rattle.tree_dead.proofs.Fits.{About, Begins, HasCode, HasOwnRow, HasState, I
 use Rattle.tree_dead.proofs.Guarded.{GoesOn, Guarded, goes_on_left, guards_left, posts_run}
 use Rattle.tree_dead.proofs.KindRules.{PickFits, kind_fits}
 use Rattle.tree_dead.proofs.Parts.{AllLive, Leaves, Left, Lives, after_left, follow_left, live_both, nothing_left}
-use Rattle.tree_dead.proofs.Picks.{cleared_rests, kept_fits, picks, starts_fit}
+use Rattle.tree_dead.proofs.Picks.{cleared_rests, kept_fits, picks, remembers_rests, starts_fit}
 use Rattle.tree_dead.proofs.Rounds.{Gives}
 use Rattle.tree_dead.proofs.Seats.{Family}
 use Rattle.tree_dead.proofs.Sets.{Has, either_left, either_right, if_so, not_both}
@@ -81,8 +81,8 @@ module _ (is_dead : ℕ → Bool) (uid : ℕ) (lives : Lives is_dead uid) where
   called_live : (p : Phase) (a : Answer) → AllLive is_dead (called p uid a ∷ [])
   called_live phase.Start a = (lives, tt)
   called_live phase.Running a = (lives, tt)
-  called_live phase.Halted a = (lives, tt)
   called_live phase.Told a = (lives, tt)
+  called_live phase.Halted a = (lives, tt)
 
 module _ (is_dead : ℕ → Bool) (rows : List Row) (F : Family is_dead rows) (node : Term-F F.Child) (view : View) (same : view.rows ≡ rows) (uid : ℕ) where
   abbrev about : About
@@ -218,9 +218,10 @@ module _ (is_dead : ℕ → Bool) (rows : List Row) (F : Family is_dead rows) (n
 
       begun_left : (b : Bool) (m : Memory) (s : State) → starts node.kind (out-Memory m).memo ≡ b → RestsWith node.kind about.children (out-Memory m).memo → Below true (out-Memory m).children → Visited s (begun b here m s)
       begun_left true m s is rests all =
+          let known : Memo = remembers (out-Memory m).status (out-Memory m).memo in
           after_left is_dead (λ a m1. Has a (by_visit about) × Own true m1) (change uid (out-Memory m).status status.Running) [] s
-          (follow (ends (or_bad_port uid (new_memo node.kind here (out-Memory m).memo s)) (out-Memory m).children s) (λ ms. remembered status.Running (out-Memory m).memo ms) (λ memo ms s1. ruled here status.Running memo ms s1)) (change_live is_dead uid lives (out-Memory m).status status.Running)
-          (started_by m s (new_memo node.kind here (out-Memory m).memo s) (starts_fit here s about.children node.kind (out-Memory m).memo able.children rests) all)
+          (follow (ends (or_bad_port uid (new_memo node.kind here known s)) (out-Memory m).children s) (λ ms. remembered status.Running (out-Memory m).memo ms) (λ memo ms s1. ruled here status.Running memo ms s1)) (change_live is_dead uid lives (out-Memory m).status status.Running)
+          (started_by m s (new_memo node.kind here known s) (starts_fit here s about.children node.kind known able.children (remembers_rests (out-Memory m).status node.kind about.children (out-Memory m).memo rests)) all)
       begun_left false m s is rests all =
           ruled_left (out-Memory m).status (out-Memory m).memo (out-Memory m).children s (kept_fits node.kind node.ports about.children (out-Memory m).memo is rests) all
 
@@ -236,9 +237,10 @@ module _ (is_dead : ℕ → Bool) (rows : List Row) (F : Family is_dead rows) (n
     guarded_left : (o : Option Answer) (m : Memory) (s : State) → Guarded (before_rule node.guards) o → RestsWith node.kind about.children (out-Memory m).memo → Below true (out-Memory m).children → Visited s (guarded o here m s)
     guarded_left None m s goes rests all = begun_left goes (starts node.kind (out-Memory m).memo) m s refl rests all
     guarded_left (Some a) m s guard rests all =
-        ended_left (out-Memory m).status (record { answer = a; memo = (out-Memory m).memo }) (out-Memory m).children s
+        ended_left (out-Memory m).status (record { answer = a; memo = remembers (out-Memory m).status (out-Memory m).memo }) (out-Memory m).children s
         (either_left a (before_rule node.guards).answers (only_if (before_rule node.guards).goes_on (by_rule about)) guard.0)
-        (λ is. absurd (not_running a guard.1 is)) (kept_as a (out-Memory m).memo guard.1 rests) all
+        (λ is. absurd (not_running a guard.1 is))
+        (kept_as a (remembers (out-Memory m).status (out-Memory m).memo) guard.1 (remembers_rests (out-Memory m).status node.kind about.children (out-Memory m).memo rests)) all
 
     rests_visited : (m : Memory) (s : State) → RestsWith node.kind about.children (out-Memory m).memo → Below true (out-Memory m).children → Visited s (follow (guards_answer here s) (λ _. m) (λ a _ s1. guarded a here m s1))
     rests_visited m s rests all =

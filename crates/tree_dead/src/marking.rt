@@ -4,7 +4,7 @@ ghost use Rattle.spec_tree.specs.Trees.{IsWithinLimits};
 ghost use Rattle.spec_dead.specs.Dead.{dead_nodes, outlook, unmarked};
 
 use crate::guards::before_rule;
-use crate::reached::{goes_of, reaches, selected_of, still_passes};
+use crate::reached::{reaches, selected_of, still_passes};
 use crate::rules::rule_answers;
 use base_texts::NoMemory;
 use spec_dead::Answers;
@@ -26,17 +26,18 @@ fn mark(
 {
     marks.push(reached)?;
     let before = before_rule(&term.guards);
-    let selected = selected_of(term.kind, term.ports.list());
+    let ports = term.ports.list();
+    let selected = selected_of(term.kind, ports);
     let mut heard = Vec::new(alloc);
     let mut passes = true;
     for child in term.children.list() {
-        let by_rule = reaches(term.kind, selected, heard.as_slice(), passes);
+        let by_rule = reaches(term.kind, ports, selected, heard.as_slice(), passes);
         let comes = before.visits(reached, by_rule);
         let answers = mark(alloc, child, comes, marks)?;
-        passes = still_passes(passes, goes_of(term.kind), answers);
+        passes = still_passes(passes, term.kind, answers);
         heard.push(answers)?;
     }
-    let rule = rule_answers(term.kind, term.ports.list(), selected, heard.as_slice());
+    let rule = rule_answers(term.kind, ports, selected, heard.as_slice());
     Ok(before.then(rule))
 }
 

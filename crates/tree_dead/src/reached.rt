@@ -1,13 +1,12 @@
 ghost use Rattle.std.specs.Prelude.{◌≡◌, ◌&&◌, ◌++◌, ◌≤◌, IfSome, List, Some, length, map, option_map};
 ghost use Rattle.std.specs.Option.{option_copied};
-ghost use Rattle.spec_tree.specs.declared.term.Port.{Port};
 ghost use Rattle.spec_tree.specs.Boards.{port_of};
 ghost use Rattle.spec_tree.specs.BuiltIns.{ports_of as rules_of};
 ghost use Rattle.base_tables.specs.BuiltInRows.{rule_seen};
 ghost use Rattle.spec_run.specs.Ports.{given_by, is_case, text_by};
 ghost use Rattle.spec_dead.specs.declared.answers.Answers.{Answers};
-ghost use Rattle.spec_dead.specs.Reached.{all_pass, always_selected, answers_at, branch_reached, literal_place, may_be_selected, may_pass, reaches};
-ghost use Rattle.tree_dead.specs.Steps.{goes_of, selected_of};
+ghost use Rattle.spec_dead.specs.Reached.{all_before, always_selected, answers_at, branch_reached, is_zero, literal_place, may_be_selected, may_end, may_flow, may_pass, may_recover, reaches, recovery_reached};
+ghost use Rattle.tree_dead.specs.Steps.{goes_of, lets_on, selected_of};
 
 use base_tables::{PortRule, ports_of};
 use itoa::Buffer;
@@ -34,11 +33,38 @@ fn may_pass(goes: Answer, child: Answers) -> bool
     child.may(goes) || child.skipped
 }
 
-/// Whether some children may let their round go on, and this next one may as well.
-pub(crate) fn still_passes(earlier: bool, goes: Answer, child: Answers) -> bool
-    ensures { result ≡ (earlier && may_pass goes child) }
+/// Whether a child of a PipelineSequence that may answer so may let it go on, as RUNNING of a child
+/// does that is not the farthest.
+fn may_flow(child: Answers) -> bool
+    ensures { result ≡ may_flow child }
 {
-    earlier && may_pass(goes, child)
+    may_pass(Answer::Success, child) || child.running
+}
+
+/// Whether a child may answer other than RUNNING.
+fn may_end(child: Answers) -> bool
+    ensures { result ≡ may_end child }
+{
+    child.success || child.failure || child.skipped
+}
+
+/// Whether a child that may answer so may let a node of this kind go on to the child after it.
+fn lets_on(kind: Kind, child: Answers) -> bool
+    ensures { result ≡ lets_on kind child }
+{
+    match kind {
+        Kind::Fallback | Kind::ReactiveFallback => may_pass(Answer::Failure, child),
+        Kind::PipelineSequence => may_flow(child),
+        Kind::RoundRobin => may_end(child),
+        _ => may_pass(Answer::Success, child),
+    }
+}
+
+/// Whether some children may let a node of this kind go on, and this next one may as well.
+pub(crate) fn still_passes(earlier: bool, kind: Kind, child: Answers) -> bool
+    ensures { result ≡ (earlier && lets_on kind child) }
+{
+    earlier && lets_on(kind, child)
 }
 
 /// The answer after which a round of this kind of node goes on.
@@ -156,29 +182,60 @@ fn branch_reached(condition: Answers, place: usize) -> bool
     }
 }
 
+/// Whether a number is always 0.
+pub(crate) fn is_zero(number: Option<&PortValue>) -> bool
+    ensures { result ≡ is_zero (option_copied number.entry) }
+{
+    match number {
+        Some(PortValue::Lit(Value::Int(n))) => *n == 0,
+        _ => false,
+    }
+}
+
+/// Whether a RecoveryNode of these ports, whose first child may answer so, may visit its second.
+pub(crate) fn may_recover(ports: &[Port], first: Answers) -> bool
+    ensures { result ≡ may_recover ports.now first }
+{
+    first.failure && !is_zero(given(ports, b"number_of_retries"))
+}
+
+/// Whether a RecoveryNode may visit the child at a place.
+fn recovery_reached(ports: &[Port], first: Answers, place: usize) -> bool
+    ensures { result ≡ recovery_reached ports.now first place }
+{
+    match place {
+        0 => true,
+        1 => may_recover(ports, first),
+        _ => false,
+    }
+}
+
 /// Whether a node may visit the child that comes after these, of which it is told what they may
-/// answer, and whether all of them may let a round go on. `selected` is the child that it always
-/// selects.
+/// answer, and whether all of them may let it go on. `selected` is the child that it always selects.
 pub(crate) fn reaches(
     kind: Kind,
+    ports: &[Port],
     selected: Option<usize>,
     earlier: &[Answers],
     passes: bool,
 ) -> bool
-    ensures { (ports : List Port) (later : List Answers) → selected ≡ selected_of kind ports →
-        passes ≡ all_pass (goes_of kind) (earlier.now ++ later) (length earlier.now) →
-        result ≡ reaches kind ports (earlier.now ++ later) (length earlier.now) }
+    ensures { (later : List Answers) → selected ≡ selected_of kind ports.now →
+        passes ≡ all_before (lets_on kind) (earlier.now ++ later) (length earlier.now) →
+        result ≡ reaches kind ports.now (earlier.now ++ later) (length earlier.now) }
 {
     match kind {
         Kind::Sequence
         | Kind::SequenceWithMemory
         | Kind::ReactiveSequence
         | Kind::Fallback
-        | Kind::ReactiveFallback => passes,
+        | Kind::ReactiveFallback
+        | Kind::PipelineSequence
+        | Kind::RoundRobin => passes,
         Kind::Switch(_) => may_be_selected(selected, earlier.len()),
         Kind::IfThenElse | Kind::WhileDoElse => {
             branch_reached(answers_at(earlier, 0), earlier.len())
         }
+        Kind::RecoveryNode => recovery_reached(ports, answers_at(earlier, 0), earlier.len()),
         Kind::AlwaysSuccess
         | Kind::AlwaysFailure
         | Kind::ScriptNode

@@ -1,10 +1,12 @@
 ghost use Rattle.std.specs.Prelude.{◌≡◌, length};
 ghost use Rattle.std.specs.Option.{option_copied};
-ghost use Rattle.spec_dead.specs.Reached.{all_pass, may_be_selected};
-ghost use Rattle.spec_dead.specs.Rules.{all_skip, branch_answers, decorator_answers, is_zero, last_skips, never_skips, otherwise, reached_answers, round_answers, rule_answers, some_seen, turned};
-ghost use Rattle.tree_dead.specs.Steps.{selected_of};
+ghost use Rattle.spec_dead.specs.Reached.{all_before, may_be_selected};
+ghost use Rattle.spec_dead.specs.Rules.{all_skip, branch_answers, decorator_answers, last_skips, never_skips, otherwise, reached_answers, recovery_answers, robin_answers, rule_answers, some_fails, some_seen, turned};
+ghost use Rattle.tree_dead.specs.Steps.{lets_on, rounded, selected_of};
 
-use crate::reached::{answers_at, given, may_be_selected, still_passes};
+use crate::reached::{
+    answers_at, given, goes_of, is_zero, may_be_selected, may_recover, still_passes,
+};
 use spec_dead::Answers;
 use spec_run::Answer;
 use spec_script::Value;
@@ -33,29 +35,57 @@ fn some_seen(goes: Answer, children: &[Answers]) -> bool
         .any(|child| child.may(goes) || child.running)
 }
 
-/// What the children that a round reaches may answer, and whether all children may let it go on.
-fn round_reached(goes: Answer, children: &[Answers]) -> (Answers, bool)
-    ensures answers { result.0 ≡ reached_answers (all_pass goes children.now) 0 children.now }
-    ensures passes { result.1 ≡ all_pass goes children.now (length children.now) }
+/// Whether some child may fail.
+fn some_fails(children: &[Answers]) -> bool
+    ensures { result ≡ some_fails children.now }
+{
+    children.iter().any(|child| child.failure)
+}
+
+/// What the children may answer that a node of this kind reaches, which goes from one to the next, and
+/// whether all children may let it go on.
+fn round_reached(kind: Kind, children: &[Answers]) -> (Answers, bool)
+    ensures answers { result.0 ≡ reached_answers (all_before (lets_on kind) children.now) 0 children.now }
+    ensures passes { result.1 ≡ all_before (lets_on kind) children.now (length children.now) }
 {
     let mut reached = Answers::none();
     let mut passes = true;
     for child in children {
         reached = reached.or(child.only_if(passes));
-        passes = still_passes(passes, goes, *child);
+        passes = still_passes(passes, kind, *child);
     }
     (reached, passes)
 }
 
-/// What a node may answer that visits its children in a round, which goes on after this answer.
-/// `skips` says whether it may be skipped.
-fn round_answers(goes: Answer, skips: bool, children: &[Answers]) -> Answers
-    ensures { result ≡ round_answers goes skips children.now }
+/// What a node may answer that visits its children in a round, as one of this kind does. `skips` says
+/// whether it may be skipped.
+fn round_answers(kind: Kind, skips: bool, children: &[Answers]) -> Answers
+    ensures { result ≡ rounded kind skips children.now }
 {
-    let (reached, all_pass) = round_reached(goes, children);
+    let goes = goes_of(kind);
+    let (reached, all_pass) = round_reached(kind, children);
     let ends = Answers::only(goes).only_if(all_pass && some_seen(goes, children));
     let stops = reached.without(goes).without(Answer::Skipped);
     stops.or(ends.or(Answers::only(Answer::Skipped).only_if(skips)))
+}
+
+/// What a RoundRobin may answer.
+fn robin_answers(children: &[Answers]) -> Answers
+    ensures { result ≡ robin_answers children.now }
+{
+    let (reached, _) = round_reached(Kind::RoundRobin, children);
+    let (_, all_fail) = round_reached(Kind::Fallback, children);
+    let ends = Answers::only(Answer::Failure).only_if(all_fail && some_fails(children));
+    let stops = reached.without(Answer::Failure).without(Answer::Skipped);
+    stops.or(ends.or(Answers::only(Answer::Skipped).only_if(all_skip(children))))
+}
+
+/// What a RecoveryNode may answer, whose children may answer so.
+fn recovery_answers(ports: &[Port], first: Answers, second: Answers) -> Answers
+    ensures { result ≡ recovery_answers ports.now first second }
+{
+    let runs = may_recover(ports, first) && second.running;
+    first.or(Answers::only(Answer::Running).only_if(runs))
 }
 
 /// What a Switch may answer, which always selects this child, or may select each.
@@ -112,16 +142,6 @@ fn turned(again: Answer, limit: Option<&PortValue>, child: Answers) -> Answers
     }
 }
 
-/// Whether a length is always 0.
-fn is_zero(length: Option<&PortValue>) -> bool
-    ensures { result ≡ is_zero (option_copied length.entry) }
-{
-    match length {
-        Some(PortValue::Lit(Value::Int(n))) => *n == 0,
-        _ => false,
-    }
-}
-
 /// Whether a RunOnce with this `then_skip` never skips.
 fn never_skips(then_skip: Option<&PortValue>) -> bool
     ensures { result ≡ never_skips (option_copied then_skip.entry) }
@@ -156,6 +176,7 @@ fn decorator_answers(kind: Kind, ports: &[Port], child: Answers) -> Answers
             let skips = !never_skips(given(ports, b"then_skip"));
             child.or(Answers::only(Answer::Skipped).only_if(skips))
         }
+        Kind::RateController => child.or(Answers::only(Answer::Running)),
         _ => child,
     }
 }
@@ -173,14 +194,21 @@ pub(crate) fn rule_answers(
 {
     match kind {
         Kind::Sequence | Kind::ReactiveSequence => {
-            round_answers(Answer::Success, all_skip(children), children)
+            round_answers(Kind::Sequence, all_skip(children), children)
         }
         Kind::SequenceWithMemory => {
-            round_answers(Answer::Success, last_skips(children), children)
+            round_answers(Kind::Sequence, last_skips(children), children)
         }
         Kind::Fallback | Kind::ReactiveFallback => {
-            round_answers(Answer::Failure, all_skip(children), children)
+            round_answers(Kind::Fallback, all_skip(children), children)
         }
+        Kind::PipelineSequence => {
+            round_answers(Kind::PipelineSequence, all_skip(children), children)
+        }
+        Kind::RecoveryNode => {
+            recovery_answers(ports, answers_at(children, 0), answers_at(children, 1))
+        }
+        Kind::RoundRobin => robin_answers(children),
         Kind::Parallel => Answers::any(),
         Kind::Switch(_) => selected_answers(selected, children),
         Kind::IfThenElse | Kind::WhileDoElse => branch_answers(children),

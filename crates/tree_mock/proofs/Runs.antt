@@ -3,7 +3,7 @@ use Rattle.std.proofs.Common.{◌≡◌, ◌≢◌, ℕ, ◌+◌, ◌≤◌, Boo
 use Rattle.std.specs.Prelude.{IfOk}
 use Rattle.std.specs.List.{AllByRecursion, flat_map, list_all}
 use Rattle.std.specs.Str.{bytes_eq}
-use Rattle.std.proofs.lemmas.Bool.{leb-true}
+use Rattle.std.proofs.lemmas.Bool.{le-leb, leb-true}
 use Rattle.std.proofs.lemmas.Bool.Decides.{nat_tests}
 use Rattle.std.proofs.lemmas.List.{length-map}
 use Rattle.std.proofs.lemmas.List.Sums.{sum_by-cons}
@@ -16,7 +16,7 @@ use Rattle.spec_script.specs.Identifiers.{is_identifier}
 use Rattle.base_texts.specs.Stops.{Gives}
 use Rattle.spec_script.proofs.Bools.{both}
 use Rattle.spec_tree.specs.declared.built_ins.Range.{Range}
-use Rattle.spec_tree.specs.declared.built_ins.Range.TheVariants.{AnyInt, AnyValue, Duration, Truth, Turns}
+use Rattle.spec_tree.specs.declared.built_ins.Range.TheVariants.{AnyInt, AnyValue, Duration, Rate, Recoveries, Truth, Turns}
 use Rattle.spec_tree.specs.declared.term.Guards.{Guards}
 use Rattle.spec_tree.specs.declared.term.Kind.{Kind}
 use Rattle.spec_tree.specs.declared.term.Kind.TheVariants.{Delay, Leaf, SubTree}
@@ -42,6 +42,7 @@ use Rattle.spec_tree_file.specs.declared.mock_rules.Rule.{Rule}
 use Rattle.spec_tree_file.specs.declared.mock_rules.Rules.{Rules}
 use Rattle.tree_mock.specs.FitRules.{ConfigurationFits, RulesFit}
 use Rattle.spec_tree_file.specs.Substitutions.{always, always_id, answering, by_id, by_name, by_rule, configuration_of, delay_port, delayed, inside, leaf, only_post, passed_limit, refused_by, replaced, rule_of, substitute, unless, with_children, with_mocks}
+use Rattle.tree_mock.proofs.Rates.{rate_short}
 use Rattle.tree_mock.proofs.Replacing.{replaced-inner, replaced-lone}
 
 -- ---- Nodes that can be run
@@ -101,6 +102,8 @@ any_text AnyValue text is = is
 any_text AnyInt text is = absurd (cc)
 any_text Turns text is = absurd (cc)
 any_text Duration text is = absurd (cc)
+any_text Recoveries text is = absurd (cc)
+any_text Rate text is = le-leb (length text) 4096 (rate_short text is)
 any_text Truth text is = short_truth (bytes_eq text (codes "true")) (bytes_eq text (codes "false")) text refl refl is
 
 any_literal : (range : Range) (value : Value) → fits range value ≡ true → fits AnyValue value ≡ true

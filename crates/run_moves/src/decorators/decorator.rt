@@ -5,6 +5,7 @@ ghost use Rattle.spec_run.specs.Rules.Decorators.{forced, inverted, keep_running
 ghost use Rattle.spec_run.specs.Rules.Kinds.{rule};
 
 use crate::decorators::once::{mark_kept, run_once_answered, run_once_begun};
+use crate::decorators::rates::{pace_kept, rate_answered, rate_begun};
 use crate::decorators::turns::{turn_answered, turns_kept};
 use crate::decorators::waits::{delay_begun, timeout_begun};
 use crate::steps::{pass, reset_and_give, visit};
@@ -18,12 +19,12 @@ pub fn decorator_next(kind: Kind, memo: &mut Memo, now: u64, heard: Heard) -> Mo
     requires decorator { IsTrue (is_decorator kind) }
     requires fits { Fits kind 1 memo.old heard }
     // What is still to come of the node's rule is this move, followed by what is to come after it.
-    ensures next { rest kind 1 now memo.old heard ≡ makes (hears kind) (after kind 1) memo.new result }
+    ensures next { rest kind 1 now memo.old heard ≡ makes (hears kind) (after kind 1 now) memo.new result }
     ensures onward { GoesOn kind 1 memo.old (next_place heard) memo.new result.then }
 {
     match heard {
         Heard::Begin { picked } => begin(kind, memo, now, picked),
-        Heard::Answered(place, answer) => answered(kind, memo, place, answer),
+        Heard::Answered(place, answer) => answered(kind, memo, now, place, answer),
         Heard::Passed(_) => unreachable!(),
     }
 }
@@ -33,7 +34,7 @@ pub fn decorator_next(kind: Kind, memo: &mut Memo, now: u64, heard: Heard) -> Mo
 fn begin(kind: Kind, memo: &mut Memo, now: u64, picked: u32) -> Move
     requires decorator { IsTrue (is_decorator kind) }
     requires fits { FitsStart kind 1 memo.old picked }
-    ensures next { rule kind 1 memo.old picked now ≡ makes (hears kind) (after kind 1) memo.new result }
+    ensures next { rule kind 1 memo.old picked now ≡ makes (hears kind) (after kind 1 now) memo.new result }
     ensures onward { GoesOn kind 1 memo.old 0 memo.new result.then }
 {
     match kind {
@@ -53,16 +54,17 @@ fn begin(kind: Kind, memo: &mut Memo, now: u64, picked: u32) -> Move
         Kind::Timeout => timeout_begun(memo, now),
         Kind::Delay => delay_begun(memo, now),
         Kind::RunOnce => run_once_begun(memo, mark_kept(*memo), picked),
+        Kind::RateController => rate_begun(memo, pace_kept(*memo), now),
         _ => unreachable!(),
     }
 }
 
-/// The move after the answer of the child.
-fn answered(kind: Kind, memo: &mut Memo, place: u32, answer: Answer) -> Move
+/// The move after the answer of the child, at the time `now` in milliseconds.
+fn answered(kind: Kind, memo: &mut Memo, now: u64, place: u32, answer: Answer) -> Move
     requires decorator { IsTrue (is_decorator kind) }
     requires there { place < 1 }
     requires fits { FitsChild kind 1 memo.old place }
-    ensures next { after kind 1 memo.old (Heard.Answered place answer) ≡ makes (hears kind) (after kind 1) memo.new result }
+    ensures next { after kind 1 now memo.old (Heard.Answered place answer) ≡ makes (hears kind) (after kind 1 now) memo.new result }
     ensures onward { GoesOn kind 1 memo.old (place + 1) memo.new result.then }
 {
     match kind {
@@ -76,6 +78,7 @@ fn answered(kind: Kind, memo: &mut Memo, place: u32, answer: Answer) -> Move
         Kind::Timeout => pass(memo, answer),
         Kind::Delay => pass(memo, answer),
         Kind::RunOnce => run_once_answered(memo, answer),
+        Kind::RateController => rate_answered(memo, pace_kept(*memo), now, answer),
         _ => unreachable!(),
     }
 }

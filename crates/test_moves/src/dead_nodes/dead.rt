@@ -67,7 +67,7 @@ fn nodes_text(alloc: Global, nodes: &str) -> Result<String, NoMemory> {
 }
 
 /// Nodes, and which of them are dead.
-static NODES: [(&str, &str); 65] = [
+static NODES: [(&str, &str); 78] = [
     ("<Sequence><AlwaysFailure/><A/></Sequence>", "3 "),
     ("<Sequence><A/><B/></Sequence>", ""),
     (
@@ -209,6 +209,55 @@ static NODES: [(&str, &str); 65] = [
     (
         "<IfThenElse><Sequence><Delay delay_msec=\"1\"><A _skipIf=\"1\"/></Delay></Sequence><B/><C/></IfThenElse>",
         "6 ",
+    ),
+    (
+        "<RecoveryNode number_of_retries=\"2\"><AlwaysSuccess/><A/></RecoveryNode>",
+        "3 ",
+    ),
+    (
+        "<RecoveryNode number_of_retries=\"0\"><A/><B/></RecoveryNode>",
+        "3 ",
+    ),
+    (
+        "<RecoveryNode number_of_retries=\"{k}\"><A/><B/></RecoveryNode>",
+        "",
+    ),
+    (
+        "<Sequence><RecoveryNode><AlwaysFailure/><A/></RecoveryNode><B/></Sequence>",
+        "5 ",
+    ),
+    (
+        "<Sequence><RecoveryNode number_of_retries=\"1\"><A/><AlwaysFailure/></RecoveryNode><B/></Sequence>",
+        "",
+    ),
+    (
+        "<PipelineSequence><AlwaysFailure/><A/></PipelineSequence>",
+        "3 ",
+    ),
+    (
+        "<PipelineSequence><KeepRunningUntilFailure><Script code=\"x := 1\"/></KeepRunningUntilFailure><A/></PipelineSequence>",
+        "",
+    ),
+    (
+        "<Fallback><PipelineSequence><AlwaysSuccess/><AlwaysSuccess/></PipelineSequence><A/></Fallback>",
+        "5 ",
+    ),
+    (
+        "<RoundRobin><KeepRunningUntilFailure><Script code=\"x := 1\"/></KeepRunningUntilFailure><A/></RoundRobin>",
+        "4 ",
+    ),
+    ("<RoundRobin><AlwaysSuccess/><A/></RoundRobin>", ""),
+    (
+        "<Fallback><RoundRobin><AlwaysSuccess/><A/></RoundRobin><B/></Fallback>",
+        "5 ",
+    ),
+    (
+        "<Fallback><RoundRobin><A/><A _skipIf=\"1\"/></RoundRobin><B/></Fallback>",
+        "",
+    ),
+    (
+        "<Sequence><RateController hz=\"1\"><AlwaysFailure/></RateController><A/></Sequence>",
+        "4 ",
     ),
     (
         "<Fallback><RunOnce then_skip=\"false\"><AlwaysSuccess/></RunOnce><A/></Fallback>",

@@ -1,4 +1,4 @@
-use Rattle.std.proofs.Common.{sym, subst, ◌∙◌}
+use Rattle.std.proofs.Common.{sym, subst}
 use Rattle.run_loop.specs.Steps.{CanCome}
 use Rattle.run_loop.proofs.events.run_listed.Goals as goal
 

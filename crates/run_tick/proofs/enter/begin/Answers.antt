@@ -31,7 +31,7 @@ returns-in_err-given-clause-goes g c = λ term view can.
     let still = still_can term_keeps _ _ term view _ _ _ _ _ _ c.in_ok-answer.ensures.slots can in
     turned_with _ _ _ _ _ _ _ _ _ _ _ _ c.from_residual-in_err-given.ensures.1
     (begin_goes _ _ term view _ _ _ _ _ _ c.args.stage.now.notes.now.list c.in_ok-answer.ensures.slots c.requires.rests c.in_ok-answer.field-0 settled _
-    (answers_so _ _ term view _ _ _ _ _ _ c.args.stage.now.notes.now.list c.in_ok-answer.ensures.slots c.in_ok-answer.field-0 c.in-Some.answer c.in-Some.is) _ _ _
+    (answers_so _ _ term view _ _ _ _ _ _ c.args.stage.now.notes.now.list c.in_ok-answer.ensures.slots c.in_ok-answer.field-0 c.in-Some.answer c.in-Some.is c.remembers-memo.result c.remembers-memo.ensures) _ _ _
     (ended_goes _ _ term view _ (Err c.in_err-given.field-0.0) _ _ _ _ _ c.in_err-given.ensures.keeps.stays c.in_err-given.ensures.keeps.beside (c.in_err-given.ensures.meets term view still.fits)))
 
 pub returns-in-Some-clause-goes : goal.returns-in-Some-clause-goes
@@ -39,7 +39,7 @@ returns-in-Some-clause-goes g c = λ term view can.
     let settled = c.in_ok-answer.ensures.settles (as_node term) view (state_on g.D.Drivers.states c.args.stage.now) (guards_here term view _ _ _ can.fits c.node-here.result.now c.node-here.ensures c.get.result.now c.get.ensures) in
     let still = still_can term_keeps _ _ term view _ _ _ _ _ _ c.in_ok-answer.ensures.slots can in
     begin_goes _ _ term view _ _ _ _ _ _ c.args.stage.now.notes.now.list c.in_ok-answer.ensures.slots c.requires.rests c.in_ok-answer.field-0 settled _
-    (answers_so _ _ term view _ _ _ _ _ _ c.args.stage.now.notes.now.list c.in_ok-answer.ensures.slots c.in_ok-answer.field-0 c.in-Some.answer c.in-Some.is) _ _ _
+    (answers_so _ _ term view _ _ _ _ _ _ c.args.stage.now.notes.now.list c.in_ok-answer.ensures.slots c.in_ok-answer.field-0 c.in-Some.answer c.in-Some.is c.remembers-memo.result c.remembers-memo.ensures) _ _ _
     (ended_goes _ _ term view _ (Ok c.in_ok-given.given) _ _ _ _ _ c.in_ok-given.ensures.keeps.stays c.in_ok-given.ensures.keeps.beside (c.in_ok-given.ensures.meets term view still.fits))
 
 pub returns-in-Some-clause-work : goal.returns-in-Some-clause-work

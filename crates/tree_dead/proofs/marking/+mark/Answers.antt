@@ -3,8 +3,8 @@ use Rattle.std.proofs.lemmas.List.{drop_all}
 use Rattle.spec_tree.specs.declared.term.Term.{out-Term}
 use Rattle.spec_dead.specs.Dead.{outlook}
 use Rattle.spec_dead.specs.Guards.{before_rule}
-use Rattle.spec_dead.specs.Reached.{may_pass, reaches}
-use Rattle.tree_dead.specs.Steps.{goes_of, selected_of}
+use Rattle.spec_dead.specs.Reached.{reaches}
+use Rattle.tree_dead.specs.Steps.{lets_on}
 use Rattle.tree_dead.proofs.Marked.{all_answers, comes_here, count_more, count_of_node, heard_here, heard_more, marks_begin, marks_more, node_end, passes_more, rule_here, terms_here}
 use Rattle.tree_dead.proofs.marking.+mark.Goals as goal
 
@@ -25,17 +25,16 @@ loop-child-preserved t c =
     let here = terms_here items i c.child-item.result c.loop-child-test.true c.child-item.is in
     let known = c.loop-child.invariant in
     let answer = heard_here c.loop-child.heard.items (all_answers items) c.child-item.result (drop i items) (drop (i + 1) items) i here known.many known.heard in
-    let by_rule = rule_here node.kind node.ports c.loop-child.heard.items c.as_slice.result.now (all_answers (drop i items)) (all_answers items) i c.loop-child.passes c.reaches-by_rule.result
-    c.as_slice.ensures.value known.many known.heard known.passes
-    (c.reaches-by_rule.ensures node.ports (all_answers (drop i items)) (c.selected_of-selected.ensures ∙ ap (selected_of node.kind) c.list.ensures))
+    let by_rule = rule_here node.kind c.list-ports.result.now node.ports c.loop-child.heard.items c.as_slice.result.now (all_answers (drop i items)) (all_answers items) i c.loop-child.passes c.reaches-by_rule.result
+    c.list-ports.ensures c.as_slice.ensures.value known.many known.heard known.passes (c.reaches-by_rule.ensures (all_answers (drop i items)) c.selected_of-selected.ensures)
     in
     let comes = comes_here c.before_rule-before.result (before_rule node.guards) c.args.reached c.reaches-by_rule.result _ c.visits-comes.result c.before_rule-before.ensures by_rule c.visits-comes.ensures in
     record {
       heard = heard_more c.loop-child.heard.items c.push-in-loop-child.new.self.items (all_answers items) c.in_ok-answers.answers c.child-item.result (drop i items) (drop (i + 1) items) here
           c.in_ok-answers.ensures.answers c.in_ok-push-2.ensures.items known.heard;
       many = omega (arith, ap length c.in_ok-push-2.ensures.items, length-append c.loop-child.heard.items (c.in_ok-answers.answers ∷ []), known.many);
-      passes = passes_more (goes_of node.kind) (all_answers items) i c.loop-child.passes c.still_passes-passes.result c.in_ok-answers.answers (outlook c.child-item.result).answers answer
-          c.in_ok-answers.ensures.answers known.passes (c.still_passes-passes.ensures ∙ ap (λ goes. c.loop-child.passes && may_pass goes c.in_ok-answers.answers) c.goes_of.ensures);
+      passes = passes_more (lets_on node.kind) (all_answers items) i c.loop-child.passes c.still_passes-passes.result c.in_ok-answers.answers (outlook c.child-item.result).answers answer
+          c.in_ok-answers.ensures.answers known.passes c.still_passes-passes.ensures;
       marks = marks_more (λ place. c.args.reached && (before_rule node.guards).goes_on && reaches node.kind node.ports (all_answers items) place) i c.loop-child.marks.items c.mark.new.marks.items _ c.visits-comes.result
           c.child-item.result (drop i items) (drop (i + 1) items) here comes c.in_ok-answers.ensures.marks known.marks;
       count = count_more _ _ _ c.child-item.result (drop i items) (drop (i + 1) items) here c.in_ok-answers.ensures.count known.count;
@@ -45,7 +44,7 @@ pub returns-clause-answers : goal.returns-clause-answers
 returns-clause-answers t c =
     let items = c.list-child-items.result.now in
     let none = drop_all c.loop-child.child-index items c.loop-child-test.false in
-    node_end c.args.term.now items c.before_rule-before.result c.list-2.result.now c.loop-child.heard.items c.as_slice-2.result.now c.rule_answers-rule.result c.then.result
-    c.list-child-items.ensures c.before_rule-before.ensures c.list-2.ensures c.as_slice-2.ensures.value
+    node_end c.args.term.now items c.before_rule-before.result c.list-ports.result.now c.loop-child.heard.items c.as_slice-2.result.now c.rule_answers-rule.result c.then.result
+    c.list-child-items.ensures c.before_rule-before.ensures c.list-ports.ensures c.as_slice-2.ensures.value
     (ap (λ ts. c.loop-child.heard.items ++ all_answers ts) (sym none) ∙ c.loop-child.invariant.heard)
     c.rule_answers-rule.ensures c.then.ensures

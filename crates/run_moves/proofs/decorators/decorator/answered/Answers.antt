@@ -5,3 +5,6 @@ returns-in-KeepRunningUntilFailure-clause-onward c = rw c.in-KeepRunningUntilFai
 
 pub returns-in-RunOnce-clause-onward : goal.returns-in-RunOnce-clause-onward
 returns-in-RunOnce-clause-onward c = rw c.in-RunOnce.is (c.run_once_answered.ensures.onward c.args.memo.now _)
+
+pub returns-in-RateController-clause-onward : goal.returns-in-RateController-clause-onward
+returns-in-RateController-clause-onward c = rw c.in-RateController.is (c.rate_answered.ensures.onward c.args.memo.now _)

@@ -1,0 +1,7 @@
+pub mod Events
+pub mod Labelled
+pub mod Misuses
+pub mod Opened
+pub mod Runners
+pub mod Statuses
+pub mod Tellings

@@ -1,0 +1,7 @@
+use Rattle.host_session.proofs.opening.first_block.Given as goal
+
+abbrev pub ghost-tellings_fit : goal.ghost-tellings_fit
+ghost-tellings_fit g a = g.of
+
+abbrev pub ghost-leaves : goal.ghost-leaves
+ghost-leaves g a = g.of
