@@ -34,6 +34,8 @@ CASES = [
     plan("no action for a condition", "<!-- no plan NoTemplate AtHome -->\n", "W:3:11:",
          ("no row makes it true: an action does by a line `sets at = VALUE`", "what changes at: Go (at = 2), Back (at += 0)"),
          HOME % "action Go timed 0\nsets at = 2\naction Back timed 0\nsets at += 0"),
+    plan("a told row", "<!-- no plan NoTemplate AtHome -->\n", "W:3:11:", ("no row changes at", "a told row has no such lines, and serves no plan: Go"),
+         HOME % "action Go told"),
     plan("no action at all", "<!-- no plan NoTemplate AtHome -->\n", "W:3:11:", ("no row changes at",), HOME % ""),
     plan("an action that was tried", STEP + "<!-- no plan NoTemplate AtHome -->\n", "W:3:11:",
          ("W:5:6: note: Go sets at += 1, and was tried for it before",), HOME % "action Go replay 0 F\nsets at += 1"),

@@ -167,6 +167,10 @@ NODES = [
           "RetryUntilSuccessful (node 3): the number comes from a key, and 1000 is counted"),
          nodes('<Sequence><Repeat num_cycles="200"><RetryUntilSuccessful            num_attempts="{tries}"><A/></RetryUntilSuccessful></Repeat>'
                '</Sequence>')),
+    Case("too much work by a key that a SubTree gives", 3, "refused tree TooMuchWork\n", "T:6:1:",
+         ("RetryUntilSuccessful (node 2): the number comes from a key, and 1000 is counted", "a SubTree gives n a number, which a script or a leaf may change",
+          "T:3:17: note: the port n"),
+         pair('<SubTree ID="N" n="3"/>', '<RetryUntilSuccessful num_attempts="{n}"><Repeat num_cycles="100"><A/></Repeat></RetryUntilSuccessful>')),
     Case("a file too long", 3, "refused tree TooLong\n", "T: error:", ("1048577 bytes", "at most 1048576"), " " * 1_048_577),
 ]
 

@@ -141,6 +141,8 @@ MOCKS = [
     mocked("a path misspelled", ("R:3:24: warning: the rule 'DriveTo/Driv' replaces no node",), '"DriveTo/Driv": "Stuck"'),
     mocked("a rule of a SubTree", ("R:3:24: warning: the rule 'DriveTo' replaces no node",), '"DriveTo": "Stuck"'),
     mocked("a rule behind another", ("R:3:43: warning: the rule 'DriveTo/Drive' replaces no node",), '"Drive*": "Stuck", "DriveTo/Drive": "AlwaysSuccess"'),
+    mocked("rules in the order of their file", ("R:3:24: warning: the rule 'b' replaces no node", "R:3:50: warning: AlwaysSucces is no configuration",
+                                                "R:3:66: warning: the rule 'a' replaces no node"), '"b": "Stuck", "HandOver": "AlwaysSucces", "a": "Stuck"'),
     mocked("a configuration misspelled", ("R:3:36: warning: Stck is no configuration",), '"HandOver": "Stck"'),
     mocked("members that are not read", ("R:2:41: warning: the member success_script is not read", "R:2:64: warning: the member failure_script is not read",
                                          "R:2:87: warning: the member asyncdelay is not read"), '"HandOver": "Stuck"',

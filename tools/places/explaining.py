@@ -1,6 +1,5 @@
 """What the program's exit and output mean for the files of its words."""
 
-import itertools
 import os
 from dataclasses import dataclass, field
 from typing import Dict, List, Optional
@@ -12,7 +11,7 @@ from .mocks import mocked, rule_warnings
 from .near import Effort, meant
 from .opening import open_file, opened
 from .plans import Planned, planned
-from .report import MOST_FOUND, Note, Place, Report, warning_lines
+from .report import Note, Place, Report, warning_lines
 from .rows import lacking
 from .rules import Configuration, Rules, read_rules
 from .slots import check_sizes
@@ -23,6 +22,10 @@ from .traces import MOST_OUTPUT, Faulted, faulted
 from .trees import TreeFile, read_file
 from .words import Command, command_of, usage, wrong
 from .worlds import World, read_world
+
+
+# words for `--help` that the program takes for the name of a file
+HELP = ("-h", "-help", "--h", "-?")
 
 
 def explanation(status: int, output: bytes, words: List[str]) -> List[str]:
@@ -76,6 +79,7 @@ def of_read(command: Command, what: str) -> List[str]:
     helps = meant(os.path.basename(name), beside(name)) if why == MISSING else []
     if name.startswith("-"):
         helps = [f"the word {name} stands where the file's name is expected: options come after the files"]
+        helps += [f"`bt {command.name} --help` tells the words of it"] if name in HELP else []
     return [f"{name or repr(name)}: error: the {what} file can't be read: {why}"] + ["  help: " + text for text in helps]
 
 
@@ -219,7 +223,7 @@ def rule_lines(run: Run) -> List[str]:
     """The lines for rules that do nothing, none where there are no rules."""
     if run.rules is None or run.before is None:
         return []
-    return warning_lines(list(itertools.islice(rule_warnings(run.before, run.rules), MOST_FOUND)))
+    return warning_lines(rule_warnings(run.before, run.rules))
 
 
 def of_configuration(run: Run, ended: Faulted) -> Optional[Report]:

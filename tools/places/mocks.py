@@ -1,5 +1,6 @@
 """The tree that mock rules make of a tree, and rules and members that do nothing: warnings."""
 
+import itertools
 import re
 from dataclasses import dataclass, field
 from typing import Dict, Iterator, List, Optional, Set
@@ -7,7 +8,7 @@ from typing import Dict, Iterator, List, Optional, Set
 from .built_ins import GUARDS
 from .marks import Attribute, Element, StandIn, Value
 from .near import listed, meant, near, said
-from .report import Place, Report
+from .report import MOST_FOUND, Place, Report
 from .rules import Configuration, Rule, Rules
 from .trees import Node, TreeFile
 
@@ -113,7 +114,13 @@ def mocked(file: TreeFile, rules: Rules) -> Mocked:
     return Making(file, rules).made
 
 
-def rule_warnings(file: TreeFile, rules: Rules) -> Iterator[Report]:
+def rule_warnings(file: TreeFile, rules: Rules) -> List[Report]:
+    """What of the rules does nothing, in the order of their file."""
+    found = itertools.chain(idle_warnings(file, rules), named_warnings(rules))
+    return sorted(itertools.islice(found, MOST_FOUND), key=lambda report: report.place.start if report.place is not None else 0)
+
+
+def idle_warnings(file: TreeFile, rules: Rules) -> Iterator[Report]:
     """Rules that replace nothing, or less than in the library, and members that are not read."""
     made = mocked(file, rules)
     for member, helps in rules.unread:
@@ -127,7 +134,6 @@ def rule_warnings(file: TreeFile, rules: Rules) -> Iterator[Report]:
         elif others := [node for node in called(file, pattern) if node not in replaced]:
             yield Report("warning", f"the rule '{pattern}' replaces no node but those of this path", place, "",
                          [f"BehaviorTree.CPP replaces {paths_said(others)} too, by the name or the ID: here that is a rule of its own"])
-    yield from named_warnings(rules)
 
 
 def called(file: TreeFile, pattern: str) -> List[Node]:

@@ -91,8 +91,10 @@ class Planned:
     def none_makes(self, test: Test) -> List[str]:
         """That no row makes a test true, and which ones change its fact."""
         others = [f"{row.id.text} ({effect.said()})" for row, effect in self.effects() if effect.fact.text == test.fact]
+        told = [row.id.text for row in self.world.rows.values() if row.is_told()]
         lines = [f"no row makes it true: an action does by a line `sets {test.fact} = VALUE`"]
-        return lines + ([f"what changes {test.fact}: {listed(others, 6)}"] if others else [f"no row changes {test.fact}"])
+        lines += [f"what changes {test.fact}: {listed(others, 6)}"] if others else [f"no row changes {test.fact}"]
+        return lines + ([f"a told row has no such lines, and serves no plan: {listed(told, 6)}"] if told else [])
 
     def no_order(self, action: str, condition: str) -> Iterator[Report]:
         """An action that undoes a condition before it."""

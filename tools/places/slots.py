@@ -1,9 +1,9 @@
 """The slots of a tree and its work, both of which have limits."""
 
-from typing import Dict, Iterator, List, Set, Tuple
+from typing import Dict, Iterator, List, Optional, Set, Tuple
 
 from .built_ins import LOOPS, NODES
-from .marks import Finding
+from .marks import Attribute, Finding
 from .near import listed
 from .scripts import ScriptFault, statements
 from .trees import Node, TreeFile
@@ -76,7 +76,22 @@ def greatest(file: TreeFile, node: Node) -> "tuple[List[str], List[Tuple[str, Tu
     keys = [other for other in found if number(turns_said(other)) is None]
     helps = [f"{listed(dict.fromkeys(other.said() for other in keys), 4)}: the number comes from a key, "
              "and 1000 is counted: write a number"] if keys else []
+    given = [(attribute, key) for attribute, key in (given_to(file, other) for other in keys) if attribute is not None]
+    if given:
+        helps.append(f"a SubTree gives {given[0][1]} a number, which a script or a leaf may change in the run: it is not counted")
+        notes.append((f"the port {given[0][0].name}", given[0][0].span()))
     return helps, notes
+
+
+def given_to(file: TreeFile, node: Node) -> Tuple[Optional[Attribute], str]:
+    """The key that tells how often a node visits its children, and the port with a number that a SubTree node gives it."""
+    said = turns_said(node)
+    if not is_key(said):
+        return None, ""
+    key = key_of(LOOPS[node.kind], said)
+    scope, name = file.cell(node.scope(), key)
+    attribute = file.nodes[scope - 1].element.attribute(name) if scope else None
+    return (attribute if attribute is not None and number(attribute.value.text()) is not None else None), key
 
 
 def turns_said(node: Node) -> str:

@@ -36,7 +36,7 @@ def command_warnings(command: Command) -> List[Report]:
     if run is None:
         return []
     if run.rules is not None and run.before is not None:
-        return [*itertools.islice(rule_warnings(run.before, run.rules), MOST_FOUND), *in_order(row_warnings(run.file, run.world))]
+        return rule_warnings(run.before, run.rules) + in_order(row_warnings(run.file, run.world))
     return run_warnings(run.file, run.world)
 
 
