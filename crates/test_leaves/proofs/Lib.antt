@@ -1,2 +1,1 @@
-pub mod AboutRobots
 pub mod AtWork

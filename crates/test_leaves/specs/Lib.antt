@@ -1,2 +1,1 @@
-pub mod Robots
 pub mod Stages

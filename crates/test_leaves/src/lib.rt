@@ -1,7 +1,5 @@
-//! Tests alone: what drivers answer, call by call, and runs of a host that holds its own drivers.
+//! Tests alone: what drivers answer, call by call.
 #![tactic(auto)]
 
 #[cfg(test)]
 mod leaves;
-#[cfg(test)]
-mod robots;

@@ -1,7 +1,7 @@
 use Rattle.std.proofs.Common.{map}
 use Rattle.run_loop.specs.Steps.{event_side}
-use Rattle.test_leaves.specs.Robots.Going.{CanGoOn}
-use Rattle.test_leaves.proofs.robots.hosts.make_events.Given as goal
+use Rattle.test_hosts.specs.Going.{CanGoOn}
+use Rattle.test_hosts.proofs.hosts.make_events.Given as goal
 
 -- the events before this one were made, and the runs can go on
 abbrev pub invariant-loop-next : goal.invariant-loop-next

@@ -1,4 +1,4 @@
-use Rattle.test_leaves.proofs.robots.hosts.begin.Given as goal
+use Rattle.test_hosts.proofs.hosts.begin.Given as goal
 
 abbrev pub ghost-leaves : goal.ghost-leaves
 ghost-leaves g a = g.of

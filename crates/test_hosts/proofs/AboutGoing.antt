@@ -20,7 +20,7 @@ use Rattle.run_loop.specs.declared.runs.Runs.{Runs}
 use Rattle.run_loop.specs.Runs.{AreRuns, arenas_of, leaves_of}
 use Rattle.spec_run.specs.Served.{Setup}
 use Rattle.run_loop.specs.Steps.{CanCome, EventLeft, EventSide, HaveRoom, event_side}
-use Rattle.test_leaves.specs.Robots.Going.{CanGoOn}
+use Rattle.test_hosts.specs.Going.{CanGoOn}
 
 -- before their first event the runs can go on, with a block that has room
 pub can_begin : (tree : Tree) (world : World) (drivers : List DriverState) (made runs : Runs) (block : Block) → AreRuns tree world drivers made → runs ≡ made → HaveRoom (arenas_of made) block.notes →

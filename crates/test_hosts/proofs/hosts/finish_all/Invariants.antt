@@ -1,7 +1,7 @@
 use Rattle.std.proofs.Common.{map}
 use Rattle.run_loop.specs.Steps.{event_side}
-use Rattle.test_leaves.specs.Robots.Going.{CanGoOn}
-use Rattle.test_leaves.proofs.robots.hosts.finish_all.Given as goal
+use Rattle.test_hosts.specs.Going.{CanGoOn}
+use Rattle.test_hosts.proofs.hosts.finish_all.Given as goal
 
 -- the runners before this one were finished, and the runs can go on
 abbrev pub invariant-loop-before : goal.invariant-loop-before

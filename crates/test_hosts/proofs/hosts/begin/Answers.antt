@@ -1,6 +1,6 @@
 use Rattle.std.proofs.Common.{arith}
 use Rattle.run_loop.proofs.FewLeaves.{leaves_are_few}
-use Rattle.test_leaves.proofs.robots.hosts.begin.Goals as goal
+use Rattle.test_hosts.proofs.hosts.begin.Goals as goal
 
 pub overflow_cast-leaves : goal.overflow_cast-leaves
 overflow_cast-leaves g c =

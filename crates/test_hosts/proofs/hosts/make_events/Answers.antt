@@ -1,8 +1,8 @@
 use Rattle.std.proofs.Common.{ap, ◌∙◌, arith}
 use Rattle.spec_world.specs.declared.world.Event.{Event}
 use Rattle.spec_run.specs.Served.{Setup}
-use Rattle.test_leaves.proofs.AboutRobots.Going.{comes, goes_on}
-use Rattle.test_leaves.proofs.robots.hosts.make_events.Goals as goal
+use Rattle.test_hosts.proofs.AboutGoing.{comes, goes_on}
+use Rattle.test_hosts.proofs.hosts.make_events.Goals as goal
 
 pub event-made-requires-clause-runs : goal.event-made-requires-clause-runs
 event-made-requires-clause-runs g c =

@@ -1,6 +1,6 @@
 use Rattle.std.proofs.Common.{arith}
-use Rattle.test_leaves.proofs.AboutRobots.Going.{goes_on}
-use Rattle.test_leaves.proofs.robots.hosts.finish_all.Goals as goal
+use Rattle.test_hosts.proofs.AboutGoing.{goes_on}
+use Rattle.test_hosts.proofs.hosts.finish_all.Goals as goal
 
 pub finish-made-requires-clause-runs : goal.finish-made-requires-clause-runs
 finish-made-requires-clause-runs g c =

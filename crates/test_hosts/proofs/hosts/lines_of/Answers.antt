@@ -1,5 +1,5 @@
-use Rattle.test_leaves.proofs.AboutRobots.Going.{can_begin}
-use Rattle.test_leaves.proofs.robots.hosts.lines_of.Goals as goal
+use Rattle.test_hosts.proofs.AboutGoing.{can_begin}
+use Rattle.test_hosts.proofs.hosts.lines_of.Goals as goal
 
 pub run-ended-requires-clause-on : goal.run-ended-requires-clause-on
 run-ended-requires-clause-on g c =

@@ -13,7 +13,7 @@ ghost use Rattle.run_loop.specs.Runs.{AreRuns, arenas_of};
 ghost use Rattle.spec_run.specs.Served.{Setup};
 ghost use Rattle.spec_tree.specs.Trees.{nodes_of};
 ghost use Rattle.run_loop.specs.Steps.{HaveRoom, event_side};
-ghost use Rattle.test_leaves.specs.Robots.Going.{CanGoOn};
+ghost use Rattle.test_hosts.specs.Going.{CanGoOn};
 
 use base_outside::SureSink;
 use base_texts::{Items, NoMemory, Stop};

@@ -1,3 +1,0 @@
-//! Tests alone: tables of runs of a host that holds its own drivers.
-
-mod hosts;
