@@ -1,16 +1,35 @@
 //! Runs of trees whose leaves are replaced by rules, and the refusals of rules.
 
-use base_outside::{MemClock, MemSink};
+use base_outside::{MemClock, MemShelf, MemSink};
 use base_texts::NoMemory;
 use std::alloc::Global;
+use std::process::Abort;
 use std::test::Fail;
-use test_bed::{answer, given_by, joined, shelf_with_rules, tree_of, world_of};
+use test_bed::{Ending, answer, given_by, joined, shelf_with_rules, tree_of, world_of};
 
 /// The words of a run of mocks over the files `T`, `W` and `R`.
 const MOCK: [&str; 4] = ["mock", "T", "W", "R"];
 
-/// What a run of mocks writes over a tree of these nodes, a world of these lines and these rules, of
-/// which these reads fail, with the exit after it.
+/// A shelf of a tree of these nodes, a world of these lines and these rules, of which these reads fail.
+fn shelf_of_mocks(
+    alloc: Global,
+    nodes: &str,
+    lines: &str,
+    rules: &str,
+    fails: &[u64],
+) -> Result<MemShelf, NoMemory> {
+    let tree = tree_of(alloc, nodes)?;
+    let world = world_of(alloc, lines)?;
+    shelf_with_rules(
+        alloc,
+        tree.as_bytes(),
+        world.as_bytes(),
+        rules.as_bytes(),
+        fails,
+    )
+}
+
+/// What a run of mocks writes over such a shelf, with the exit after it.
 fn mocked(
     alloc: Global,
     nodes: &str,
@@ -18,16 +37,21 @@ fn mocked(
     rules: &str,
     fails: &[u64],
 ) -> Result<String, NoMemory> {
-    let tree = tree_of(alloc, nodes)?;
-    let world = world_of(alloc, lines)?;
-    let mut shelf = shelf_with_rules(
-        alloc,
-        tree.as_bytes(),
-        world.as_bytes(),
-        rules.as_bytes(),
-        fails,
-    )?;
+    let mut shelf = shelf_of_mocks(alloc, nodes, lines, rules, fails)?;
     given_by(alloc, &MOCK, &mut shelf)
+}
+
+/// Compares rows: nodes, the lines of a world, rules, and what is answered.
+fn compare_mocks(
+    rt: &impl Abort,
+    alloc: Global,
+    rows: &[(&str, &str, &str, &str)],
+) -> Result<(), NoMemory> {
+    for (nodes, lines, rules, want) in rows {
+        let text = mocked(alloc, nodes, lines, rules, &[])?;
+        assert_eq!(rt; text.as_str(), *want, "{nodes} {rules}");
+    }
+    Ok(())
 }
 
 const TALK: &str = "<Sequence><A name=\"talk\"/><B/></Sequence>";
@@ -205,11 +229,7 @@ static RUNS: [(&str, &str, &str, &str); 23] = [
 /// Runs of mocks, and refusals of rules.
 #[test]
 fn mocks_run(rt: HostRuntime) -> Result<(), Fail> {
-    let rows = &RUNS;
-    for (nodes, lines, rules, want) in rows {
-        let text = mocked(rt.alloc(), nodes, lines, rules, &[])?;
-        assert_eq!(rt; text.as_str(), *want, "{nodes} {rules}");
-    }
+    compare_mocks(&rt, rt.alloc(), &RUNS)?;
     Ok(())
 }
 
@@ -251,20 +271,17 @@ fn rules_may_be_too_long(rt: HostRuntime) -> Result<(), Fail> {
     Ok(())
 }
 
-/// Whether drivers hold anything after these rules, and what they have counted.
-fn counts(alloc: Global, rules: &str) -> Result<String, NoMemory> {
-    let tree = tree_of(alloc, "<A/>")?;
-    let world = world_of(alloc, "condition A when 1 / tick 1")?;
-    let mut shelf = shelf_with_rules(
-        alloc,
-        tree.as_bytes(),
-        world.as_bytes(),
-        rules.as_bytes(),
-        &[],
-    )?;
+/// How a run with these rules ends.
+fn ended(alloc: Global, rules: &str) -> Result<Ending, NoMemory> {
+    let mut shelf = shelf_of_mocks(alloc, "<A/>", "condition A when 1 / tick 1", rules, &[])?;
     let mut sink = MemSink::new(alloc, Vec::new(alloc));
     let mut clock = MemClock::new(Vec::new(alloc));
-    let ending = answer(alloc, &MOCK, &mut shelf, &mut sink, &mut clock)?;
+    answer(alloc, &MOCK, &mut shelf, &mut sink, &mut clock)
+}
+
+/// Whether drivers hold anything after these rules, and what they have counted.
+fn counts(alloc: Global, rules: &str) -> Result<String, NoMemory> {
+    let ending = ended(alloc, rules)?;
     Ok(format!(in alloc; "{}{}", ending.holds, ending.counts.as_str())?)
 }
 

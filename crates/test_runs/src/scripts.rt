@@ -1,6 +1,8 @@
 //! Runs of script nodes, guards, ports and blackboards.
 
 use crate::compare::compare_rows;
+use base_texts::NoMemory;
+use std::alloc::Global;
 use std::test::Fail;
 use test_bed::{TICK, given, world_of};
 
@@ -263,14 +265,17 @@ board 1 3 own 2
 finish 1 at 0
 Done";
 
+/// What the run of a whole tree file writes, with its exit after it.
+fn file_ran(alloc: Global, file: &str) -> Result<String, NoMemory> {
+    let world = world_of(alloc, "tick 1")?;
+    given(alloc, &TICK, file.as_bytes(), world.as_bytes(), &[])
+}
+
 /// Trees with mapped keys, and their traces.
 #[test]
 fn keys_are_mapped(rt: HostRuntime) -> Result<(), Fail> {
-    let alloc = rt.alloc();
-    let world = world_of(alloc, "tick 1")?;
     for (file, want) in [(MAPPED, MAPPED_TRACE), (TWICE_MAPPED, TWICE_MAPPED_TRACE)] {
-        let text = given(alloc, &TICK, file.as_bytes(), world.as_bytes(), &[])?;
-        assert_eq!(rt; text.as_str(), want);
+        assert_eq!(rt; file_ran(rt.alloc(), file)?.as_str(), want);
     }
     Ok(())
 }

@@ -2,7 +2,6 @@
 
 use crate::compare::compare_rows;
 use std::test::Fail;
-use test_bed::{joined, ran};
 
 const TWO_CHECKS: &str = "<Sequence><A/><B/></Sequence>";
 
@@ -62,7 +61,7 @@ Done";
 const CHECK_THEN_ACT: &str =
     "fact x 1\ncondition A is x == 1\naction B timed 300\ntick 1\nat 299\ntick 1";
 
-const HELD_TRACE: &str = "\
+const HALTED_TRACE: &str = "\
 tick 1 at 0
 node 1 IDLE RUNNING
 call 2 start SUCCESS
@@ -73,9 +72,6 @@ root 1 RUNNING
 tick 1 at 299
 call 3 running RUNNING
 root 1 RUNNING
-";
-
-const HALTED_TRACE: &str = "\
 finish 1 at 299
 node 2 SUCCESS IDLE
 call 3 halted
@@ -83,7 +79,20 @@ node 3 RUNNING IDLE
 node 1 RUNNING IDLE
 Done";
 
+const CHECK_THEN_END: &str =
+    "fact x 1\ncondition A is x == 1\naction B timed 300\ntick 1\nat 299\ntick 1\nat 300\ntick 1";
+
 const OVER_TRACE: &str = "\
+tick 1 at 0
+node 1 IDLE RUNNING
+call 2 start SUCCESS
+node 2 IDLE SUCCESS
+call 3 start RUNNING
+node 3 IDLE RUNNING
+root 1 RUNNING
+tick 1 at 299
+call 3 running RUNNING
+root 1 RUNNING
 tick 1 at 300
 call 3 running SUCCESS
 node 3 RUNNING SUCCESS
@@ -161,41 +170,28 @@ Done";
 /// Trees and worlds with their whole traces.
 #[test]
 fn runs_have_their_traces(rt: HostRuntime) -> Result<(), Fail> {
-    let alloc = rt.alloc();
-    let table: [(&str, &[&str], &[&str]); 8] = [
-        (TWO_CHECKS, &[TWO_CONDITIONS], &[TWO_CHECKS_TRACE]),
-        (
-            "<Sequence><Sequence><A/></Sequence><B/></Sequence>",
-            &[TWO_CONDITIONS],
-            &[NESTED_TRACE],
-        ),
-        (
-            "<Sequence><A/><B/><C/></Sequence>",
-            &[THREE_CONDITIONS],
-            &[SECOND_FAILS_TRACE],
-        ),
-        (
-            TWO_CHECKS,
-            &[CHECK_THEN_ACT, "\nat 300\ntick 1"],
-            &[HELD_TRACE, OVER_TRACE],
-        ),
-        (TWO_CHECKS, &[CHECK_THEN_ACT], &[HELD_TRACE, HALTED_TRACE]),
-        (TWO_CHECKS, &[SETTING], &[SETTING_TRACE]),
-        (
-            "<Fallback><A/><B/></Fallback>",
-            &[REPLAYED],
-            &[REPLAYED_TRACE],
-        ),
-        ("<A/>", &[EFFECTS], &[EFFECTS_TRACE]),
-    ];
-    for (nodes, lines, trace) in table {
-        let want = joined(alloc, trace)?;
-        assert_eq!(rt;
-            ran(alloc, nodes, joined(alloc, lines)?.as_str())?,
-            want,
-            "{nodes}"
-        );
-    }
+    compare_rows(
+        &rt,
+        rt.alloc(),
+        &[
+            (TWO_CHECKS, TWO_CONDITIONS, TWO_CHECKS_TRACE),
+            (
+                "<Sequence><Sequence><A/></Sequence><B/></Sequence>",
+                TWO_CONDITIONS,
+                NESTED_TRACE,
+            ),
+            (
+                "<Sequence><A/><B/><C/></Sequence>",
+                THREE_CONDITIONS,
+                SECOND_FAILS_TRACE,
+            ),
+            (TWO_CHECKS, CHECK_THEN_END, OVER_TRACE),
+            (TWO_CHECKS, CHECK_THEN_ACT, HALTED_TRACE),
+            (TWO_CHECKS, SETTING, SETTING_TRACE),
+            ("<Fallback><A/><B/></Fallback>", REPLAYED, REPLAYED_TRACE),
+            ("<A/>", EFFECTS, EFFECTS_TRACE),
+        ],
+    )?;
     Ok(())
 }
 
