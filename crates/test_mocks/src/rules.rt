@@ -85,119 +85,85 @@ fn file_text(alloc: Global, bytes: &[u8]) -> Result<String, NoMemory> {
     }
 }
 
-/// Files, and what they say.
-static FILES: [(&str, &str); 28] = [
-    ("{}", ""),
-    ("{", "Json"),
-    ("", "Json"),
-    ("{} {}", "Json"),
-    ("[]", "Form ''"),
-    ("null", "Form ''"),
-    (r#"{"TestNodeConfigs":[]}"#, "Form ''"),
-    (r#"{"SubstitutionRules":null}"#, "Form ''"),
-    (
-        r#"{"SubstitutionRules":1,"TestNodeConfigs":{"N":0}}"#,
-        "Form ''",
-    ),
-    (r#"{"TestNodeConfigs":{},"SubstitutionRules":{}}"#, ""),
-    (r#"{"Other":[1,{"a":null}],"TestNodeConfigs":{}}"#, ""),
-    (r#"{"TestNodeConfigs":{"N":0}}"#, "Form 'N'"),
-    (r#"{"TestNodeConfigs":{"N":{}}}"#, "Form 'N'"),
-    (
-        r#"{"TestNodeConfigs":{"N":{"return_status":"SUCCESS","other":[2]}}}"#,
-        "N SUCCESS 0; ",
-    ),
-    (
-        r#"{"TestNodeConfigs":{"N":{"return_status":"FAILURE","async_delay":100,"post_script":"m := 5"}}}"#,
-        "N FAILURE 100 'm := 5'; ",
-    ),
-    (
-        r#"{"TestNodeConfigs":{"N":{"return_status":"RUNNING"}}}"#,
-        "Form 'N'",
-    ),
-    (
-        r#"{"TestNodeConfigs":{"N":{"return_status":1}}}"#,
-        "Form 'N'",
-    ),
-    (
-        r#"{"TestNodeConfigs":{"N":{"return_status":"SUCCESS","post_script":5}}}"#,
-        "Form 'N'",
-    ),
-    (
-        r#"{"TestNodeConfigs":{"B":{"return_status":"SUCCESS"},"A":{"return_status":"FAILURE"},"é":{"return_status":"SUCCESS"}}}"#,
-        "A FAILURE 0; B SUCCESS 0; é SUCCESS 0; ",
-    ),
-    (
-        r#"{"TestNodeConfigs":{"A":{"return_status":"SUCCESS"},"A":{"return_status":"FAILURE"}}}"#,
-        "A FAILURE 0; ",
-    ),
-    (
-        r#"{"TestNodeConfigs":{"A":0},"TestNodeConfigs":{"B":{"return_status":"SUCCESS","return_status":"FAILURE"}}}"#,
-        "B FAILURE 0; ",
-    ),
-    (
-        r#"{"SubstitutionRules":{"b*":"X","a":"AlwaysSuccess","*":""}}"#,
-        "* -> ; a -> AlwaysSuccess; b* -> X; ",
-    ),
-    (r#"{"SubstitutionRules":{"a":"X","a":"Y"}}"#, "a -> Y; "),
-    (r#"{"SubstitutionRules":{"a":"X","b":2}}"#, "Form 'b'"),
-    (
-        r#"{"SubstitutionRules":{"a":1},"TestNodeConfigs":{"N":{"return_status":"SUCCESS","post_script":"("}}}"#,
-        "BadScript 'N' Syntax 1",
-    ),
-    (
-        r#"{"TestNodeConfigs":{"B":0,"A":{"return_status":"SUCCESS","post_script":"("}}}"#,
-        "BadScript 'A' Syntax 1",
-    ),
-    (
-        r#"{"TestNodeConfigs":{"A":{"async_delay":"x","return_status":"SUCCESS","post_script":"("}}}"#,
-        "Form 'A'",
-    ),
-    (
-        r#"{"TestNodeConfigs":{"\u0041":{"return_status":"SUCC\u0045SS"}}}"#,
-        "A SUCCESS 0; ",
-    ),
-];
+/// What is given in a line, and what is wanted; nothing where it does not say.
+fn row(line: &str) -> (&str, &str) {
+    line.split_once(" => ").unwrap_or((line, ""))
+}
+
+/// Files, one a line, and what they say.
+const FILES: &str = r#"{}
+{ => Json
+ => Json
+{} {} => Json
+[] => Form ''
+null => Form ''
+{"TestNodeConfigs":[]} => Form ''
+{"SubstitutionRules":null} => Form ''
+{"SubstitutionRules":1,"TestNodeConfigs":{"N":0}} => Form ''
+{"TestNodeConfigs":{},"SubstitutionRules":{}}
+{"Other":[1,{"a":null}],"TestNodeConfigs":{}}
+{"TestNodeConfigs":{"N":0}} => Form 'N'
+{"TestNodeConfigs":{"N":{}}} => Form 'N'
+{"TestNodeConfigs":{"N":{"return_status":"SUCCESS","other":[2]}}} => N SUCCESS 0;
+{"TestNodeConfigs":{"N":{"return_status":"FAILURE","async_delay":100,"post_script":"m := 5"}}} => N FAILURE 100 'm := 5';
+{"TestNodeConfigs":{"N":{"return_status":"RUNNING"}}} => Form 'N'
+{"TestNodeConfigs":{"N":{"return_status":1}}} => Form 'N'
+{"TestNodeConfigs":{"N":{"return_status":"SUCCESS","post_script":5}}} => Form 'N'
+{"TestNodeConfigs":{"B":{"return_status":"SUCCESS"},"A":{"return_status":"FAILURE"},"é":{"return_status":"SUCCESS"}}} => A FAILURE 0; B SUCCESS 0; é SUCCESS 0;
+{"TestNodeConfigs":{"A":{"return_status":"SUCCESS"},"A":{"return_status":"FAILURE"}}} => A FAILURE 0;
+{"TestNodeConfigs":{"A":0},"TestNodeConfigs":{"B":{"return_status":"SUCCESS","return_status":"FAILURE"}}} => B FAILURE 0;
+{"SubstitutionRules":{"b*":"X","a":"AlwaysSuccess","*":""}} => * -> ; a -> AlwaysSuccess; b* -> X;
+{"SubstitutionRules":{"a":"X","a":"Y"}} => a -> Y;
+{"SubstitutionRules":{"a":"X","b":2}} => Form 'b'
+{"SubstitutionRules":{"a":1},"TestNodeConfigs":{"N":{"return_status":"SUCCESS","post_script":"("}}} => BadScript 'N' Syntax 1
+{"TestNodeConfigs":{"B":0,"A":{"return_status":"SUCCESS","post_script":"("}}} => BadScript 'A' Syntax 1
+{"TestNodeConfigs":{"A":{"async_delay":"x","return_status":"SUCCESS","post_script":"("}}} => Form 'A'
+{"TestNodeConfigs":{"\u0041":{"return_status":"SUCC\u0045SS"}}} => A SUCCESS 0;"#;
 
 #[test]
 fn files(rt: HostRuntime) -> Result<(), Fail> {
     let alloc = rt.alloc();
-    for (file, wanted) in &FILES {
+    for line in FILES.lines() {
+        let (file, wanted) = row(line);
         assert_eq!(rt;
-            file_text(alloc, file.as_bytes())?.as_str(),
-            *wanted,
+            file_text(alloc, file.as_bytes())?.as_str().trim_end(),
+            wanted,
             "{file}"
         );
     }
     Ok(())
 }
 
-/// How an `async_delay` is written, and what the file says.
-static DELAYS: [(&str, &str); 12] = [
-    ("0", "N SUCCESS 0; "),
-    ("7", "N SUCCESS 7; "),
-    ("4294967295", "N SUCCESS 4294967295; "),
-    ("4294967296", "Form 'N'"),
-    ("18446744073709551616", "Form 'N'"),
-    ("1.0", "Form 'N'"),
-    ("-1", "Form 'N'"),
-    ("-0", "Form 'N'"),
-    ("1e2", "Form 'N'"),
-    ("null", "Form 'N'"),
-    ("\"5\"", "Form 'N'"),
-    ("01", "Json"),
-];
+/// How an `async_delay` is written, in a line each, and what the file says.
+const DELAYS: &str = r#"0 => N SUCCESS 0;
+7 => N SUCCESS 7;
+4294967295 => N SUCCESS 4294967295;
+4294967296 => Form 'N'
+18446744073709551616 => Form 'N'
+1.0 => Form 'N'
+-1 => Form 'N'
+-0 => Form 'N'
+1e2 => Form 'N'
+null => Form 'N'
+"5" => Form 'N'
+01 => Json"#;
+
+/// What a file says of one configuration with this delay.
+fn delay_text(alloc: Global, delay: &str) -> Result<String, NoMemory> {
+    let file = format!(in alloc;
+        "{{\"TestNodeConfigs\":{{\"N\":{{\"return_status\":\"SUCCESS\",\"async_delay\":{delay}}}}}}}"
+    )?;
+    file_text(alloc, file.as_bytes())
+}
 
 #[test]
 fn delays(rt: HostRuntime) -> Result<(), Fail> {
     let alloc = rt.alloc();
-    for (delay, wanted) in &DELAYS {
-        let file = format!(in alloc;
-            "{{\"TestNodeConfigs\":{{\"N\":{{\"return_status\":\"SUCCESS\",\"async_delay\":{delay}}}}}}}"
-        )?;
+    for line in DELAYS.lines() {
+        let (delay, wanted) = row(line);
         assert_eq!(rt;
-            file_text(alloc, file.as_bytes())?.as_str(),
-            *wanted,
+            delay_text(alloc, delay)?.as_str().trim_end(),
+            wanted,
             "{delay}"
         );
     }

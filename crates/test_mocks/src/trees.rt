@@ -162,103 +162,44 @@ fn nodes_text(alloc: Global, nodes: &str, rules: &str) -> Result<String, NoMemor
     file_text(alloc, file.as_str(), rules.as_str())
 }
 
-/// Nodes, rules, and what the rules make of the nodes. There are two configurations, `New` and `AlwaysSuccess`.
-static TREES: [(&str, &str, &str); 22] = [
-    ("<A/>", "", "leaf A 'A'"),
-    (
-        "<Sequence><A name='talk'/><B/></Sequence>",
-        r#""ta*":"New""#,
-        "Sequence 'Sequence'(Delay 'talk' delay_msec=100(AlwaysSuccess 'AlwaysSuccess' _post='m := 5'; ); leaf B 'B'; )",
-    ),
-    (
-        "<Sequence><A name='talk'/><B/></Sequence>",
-        r#""ta*":"Old""#,
-        "Sequence 'Sequence'(leaf Old 'talk'; leaf B 'B'; )",
-    ),
-    (
-        "<AlwaysFailure name='talk'/>",
-        r#""ta*":"AlwaysFailure""#,
-        "AlwaysFailure 'talk'",
-    ),
-    (
-        "<AlwaysFailure name='talk'/>",
-        r#""ta*":"AlwaysSuccess""#,
-        "Delay 'talk' delay_msec=0(AlwaysFailure 'AlwaysFailure'; )",
-    ),
-    ("<A/>", r#""A":"Sequence""#, "leaf Sequence 'A'"),
-    ("<A/>", r#""A":"""#, "leaf  'A'"),
-    ("<A/>", r#""a":"X""#, "leaf A 'A'"),
-    (
-        "<Script name='s' code='x := 1'/>",
-        r#""s":"X""#,
-        "leaf X 's'",
-    ),
-    (
-        "<ScriptCondition code='1'/>",
-        r#""*":"AlwaysFailure""#,
-        "AlwaysFailure 'ScriptCondition'",
-    ),
-    ("<AlwaysSuccess/>", r#""*":"X""#, "leaf X 'AlwaysSuccess'"),
-    (
-        "<A p='1' q='{k}' r='t'/>",
-        r#""A":"X""#,
-        "leaf X 'A' p=1 q={k} r='t'",
-    ),
-    (
-        "<A p='1' _skipIf='x' _post='y := 1'/>",
-        r#""A":"X""#,
-        "leaf X 'A' p=1 _skipIf='x' _post='y := 1'",
-    ),
-    (
-        "<A p='1' _skipIf='x' _onHalted='y := 1'/>",
-        r#""A":"AlwaysFailure""#,
-        "AlwaysFailure 'A' _skipIf='x' _onHalted='y := 1'",
-    ),
-    (
-        "<A p='1' _failureIf='1' _while='x'/>",
-        r#""A":"New""#,
-        "Delay 'A' delay_msec=100 _failureIf='1' _while='x'(AlwaysSuccess 'AlwaysSuccess' _post='m := 5'; )",
-    ),
-    (
-        "<Sequence name='A'><A/></Sequence>",
-        r#""A":"X""#,
-        "Sequence 'A'(leaf X 'A'; )",
-    ),
-    (
-        "<A/>",
-        r#""A":"Last","A*":"Later","*":"First""#,
-        "leaf First 'A'",
-    ),
-    ("<A/>", r#""A*":"Later","A":"First""#, "leaf First 'A'"),
-    (
-        "<SubTree ID='S' name='arm'/></BehaviorTree><BehaviorTree ID='S'><Sequence><A/><SubTree ID='T'/></Sequence></BehaviorTree><BehaviorTree ID='T'><A/>",
-        r#""arm/A":"X","arm/T/A":"Y","A":"Z""#,
-        "SubTree S 'arm'(Sequence 'Sequence'(leaf X 'A'; SubTree T 'T'(leaf Y 'A'; ); ); )",
-    ),
-    (
-        "<SubTree ID='S' name='arm'/></BehaviorTree><BehaviorTree ID='S'><A/>",
-        r#""A":"X","arm":"Y""#,
-        "SubTree S 'arm'(leaf A 'A'; )",
-    ),
-    (
-        "<Sequence><SubTree ID='S' name='a'/><SubTree ID='S' name='b'/></Sequence></BehaviorTree><BehaviorTree ID='S'><A/>",
-        r#""b/*":"X""#,
-        "Sequence 'Sequence'(SubTree S 'a'(leaf A 'A'; ); SubTree S 'b'(leaf X 'A'; ); )",
-    ),
-    (
-        "<Sequence name='x'><A/></Sequence>",
-        r#""x/A":"X""#,
-        "Sequence 'x'(leaf A 'A'; )",
-    ),
-];
+/// The two sides of an arrow in a line.
+fn sides(line: &str) -> (&str, &str) {
+    line.split_once(" => ").unwrap_or((line, "?"))
+}
+
+/// Nodes, rules, and what the rules make of the nodes, a line each. There are two configurations, `New` and `AlwaysSuccess`.
+const TREES: &str = r#"<A/> =>  => leaf A 'A'
+<Sequence><A name='talk'/><B/></Sequence> => "ta*":"New" => Sequence 'Sequence'(Delay 'talk' delay_msec=100(AlwaysSuccess 'AlwaysSuccess' _post='m := 5'; ); leaf B 'B'; )
+<Sequence><A name='talk'/><B/></Sequence> => "ta*":"Old" => Sequence 'Sequence'(leaf Old 'talk'; leaf B 'B'; )
+<AlwaysFailure name='talk'/> => "ta*":"AlwaysFailure" => AlwaysFailure 'talk'
+<AlwaysFailure name='talk'/> => "ta*":"AlwaysSuccess" => Delay 'talk' delay_msec=0(AlwaysFailure 'AlwaysFailure'; )
+<A/> => "A":"Sequence" => leaf Sequence 'A'
+<A/> => "A":"" => leaf  'A'
+<A/> => "a":"X" => leaf A 'A'
+<Script name='s' code='x := 1'/> => "s":"X" => leaf X 's'
+<ScriptCondition code='1'/> => "*":"AlwaysFailure" => AlwaysFailure 'ScriptCondition'
+<AlwaysSuccess/> => "*":"X" => leaf X 'AlwaysSuccess'
+<A p='1' q='{k}' r='t'/> => "A":"X" => leaf X 'A' p=1 q={k} r='t'
+<A p='1' _skipIf='x' _post='y := 1'/> => "A":"X" => leaf X 'A' p=1 _skipIf='x' _post='y := 1'
+<A p='1' _skipIf='x' _onHalted='y := 1'/> => "A":"AlwaysFailure" => AlwaysFailure 'A' _skipIf='x' _onHalted='y := 1'
+<A p='1' _failureIf='1' _while='x'/> => "A":"New" => Delay 'A' delay_msec=100 _failureIf='1' _while='x'(AlwaysSuccess 'AlwaysSuccess' _post='m := 5'; )
+<Sequence name='A'><A/></Sequence> => "A":"X" => Sequence 'A'(leaf X 'A'; )
+<A/> => "A":"Last","A*":"Later","*":"First" => leaf First 'A'
+<A/> => "A*":"Later","A":"First" => leaf First 'A'
+<SubTree ID='S' name='arm'/></BehaviorTree><BehaviorTree ID='S'><Sequence><A/><SubTree ID='T'/></Sequence></BehaviorTree><BehaviorTree ID='T'><A/> => "arm/A":"X","arm/T/A":"Y","A":"Z" => SubTree S 'arm'(Sequence 'Sequence'(leaf X 'A'; SubTree T 'T'(leaf Y 'A'; ); ); )
+<SubTree ID='S' name='arm'/></BehaviorTree><BehaviorTree ID='S'><A/> => "A":"X","arm":"Y" => SubTree S 'arm'(leaf A 'A'; )
+<Sequence><SubTree ID='S' name='a'/><SubTree ID='S' name='b'/></Sequence></BehaviorTree><BehaviorTree ID='S'><A/> => "b/*":"X" => Sequence 'Sequence'(SubTree S 'a'(leaf A 'A'; ); SubTree S 'b'(leaf X 'A'; ); )
+<Sequence name='x'><A/></Sequence> => "x/A":"X" => Sequence 'x'(leaf A 'A'; )"#;
 
 #[test]
 fn trees(rt: HostRuntime) -> Result<(), Fail> {
     let alloc = rt.alloc();
-    for (nodes, rules, wanted) in &TREES {
+    for line in TREES.lines() {
+        let (nodes, rest) = sides(line);
+        let (rules, wanted) = sides(rest);
         assert_eq!(rt;
             nodes_text(alloc, nodes, rules)?.as_str(),
-            *wanted,
+            wanted,
             "{nodes} {rules}"
         );
     }

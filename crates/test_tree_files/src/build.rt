@@ -193,394 +193,180 @@ fn node_text(alloc: Global, root: &str, node: &str) -> Result<String, AllocError
     file_text(alloc, file.as_bytes(), Some("M"))
 }
 
-/// Files with the main tree that is asked for, and what each is read as.
-static FILES: [(&str, Option<&str>, &str); 28] = [
-    ("<tree/>", None, "NotRoot 0"),
-    ("<root BTCPP_format=\"5\"><a/></root>", None, "NotRoot 23"),
-    ("<root BTCPP_format=\"5\"/>", None, "Format"),
-    ("<root BTCPP_format=\"\"/>", None, "Format"),
-    ("<root BTCPP_format=\"03\"/>", None, "Format"),
-    ("<root BTCPP_format=\"4\"/>", None, "NoMain"),
-    ("<root BTCPP_format=\"3\"/>", None, "NoMain"),
-    ("<root/>", None, "NoMain"),
-    ("<root><a/></root>", None, "NotRoot 6"),
-    (
-        "<root BTCPP_format=\"3\"><BehaviorTree/><BehaviorTree ID=\"\"/></root>",
-        None,
-        "DoubleTree ''",
-    ),
-    (
-        "<root main_tree_to_execute=\"C\"><BehaviorTree ID=\"A\"/></root>",
-        None,
-        "NoTree 'C'",
-    ),
-    (
-        "<root><BehaviorTree ID=\"A\"/><BehaviorTree ID=\"B\"/></root>",
-        Some("A"),
-        "ChildCount 0",
-    ),
-    (
-        "<root main_tree_to_execute=\"M\"><BehaviorTree ID=\"M\"><Sequence><A/><SubTree ID=\"S\"/></Sequence></BehaviorTree><BehaviorTree ID=\"S\"/></root>",
-        None,
-        "ChildCount 3",
-    ),
-    (
-        "<root main_tree_to_execute=\"M\"><BehaviorTree ID=\"M\"><SubTree ID=\"S\"/></BehaviorTree><BehaviorTree ID=\"S\"><SubTreePlus ID=\"M\"/></BehaviorTree></root>",
-        None,
-        "Recursive 'M'",
-    ),
-    (
-        "<root><BehaviorTree ID=\"M\"><A e=\"1\"/></BehaviorTree><TreeNodesModel><Action ID=\"A\"><input_port name=\"c\"/></Action></TreeNodesModel></root>",
-        None,
-        "UnknownPort 1",
-    ),
-    (
-        "<root><BehaviorTree ID=\"M\"><SequenceStar><A b=\"1\"/></SequenceStar></BehaviorTree><TreeNodesModel><Control ID=\"SequenceStar\"/><SubTreePlus ID=\"S\"><input_port/></SubTreePlus><Action ID=\"A\"><input_port name=\"b\"/><input_port name=\"c\" default=\"2\"/></Action></TreeNodesModel></root>",
-        None,
-        "M: SequenceWithMemory SequenceWithMemory SequenceWithMemory (Leaf A A b=1 c=2)",
-    ),
-    (
-        "<root BTCPP_format=\"4\"><BehaviorTree/><BehaviorTree ID=\"\"/></root>",
-        None,
-        "DoubleTree ''",
-    ),
-    (
-        "<root BTCPP_format=\"4\"><BehaviorTree ID=\"A\"/><BehaviorTree ID=\"B\"/></root>",
-        None,
-        "NoMain",
-    ),
-    (
-        "<root BTCPP_format=\"4\" main_tree_to_execute=\"C\"><BehaviorTree ID=\"A\"/></root>",
-        None,
-        "NoTree 'C'",
-    ),
-    (
-        "<root BTCPP_format=\"4\" main_tree_to_execute=\"C\"><BehaviorTree ID=\"A\"><X/></BehaviorTree></root>",
-        Some("A"),
-        "A: Leaf X X",
-    ),
-    (
-        "<root BTCPP_format=\"4\" main_tree_to_execute=\"\"><BehaviorTree><X/></BehaviorTree><BehaviorTree ID=\"B\"/></root>",
-        None,
-        ": Leaf X X",
-    ),
-    (
-        "<root BTCPP_format=\"4\"><BehaviorTree ID=\"M\"/></root>",
-        None,
-        "ChildCount 0",
-    ),
-    (
-        "<root BTCPP_format=\"4\"><BehaviorTree ID=\"M\"><SubTree ID=\"M\"/></BehaviorTree></root>",
-        None,
-        "Recursive 'M'",
-    ),
-    (
-        "<root BTCPP_format=\"4\" main_tree_to_execute=\"M\"><BehaviorTree ID=\"M\"><Sequence><A/><SubTree ID=\"S\"/></Sequence></BehaviorTree><BehaviorTree ID=\"S\"/></root>",
-        None,
-        "ChildCount 3",
-    ),
-    (
-        "<root BTCPP_format=\"4\" main_tree_to_execute=\"M\"><BehaviorTree ID=\"M\"><Sequence><SubTree ID=\"S\" a=\"{b}\" c=\"{=}\" d=\"7\" _autoremap=\"1\" name=\"n\"/><A/></Sequence></BehaviorTree><BehaviorTree ID=\"S\"><Inverter><B/></Inverter></BehaviorTree></root>",
-        None,
-        "M: Sequence Sequence Sequence (SubTree S n a={b} c={c} d=7 autoremap (Inverter Inverter Inverter (Leaf B B))) (Leaf A A)",
-    ),
-    (
-        "<root BTCPP_format=\"4\"><BehaviorTree ID=\"M\"><A b=\"1\" _x=\"2\"/></BehaviorTree><TreeNodesModel><Action ID=\"A\"><input_port name=\"c\" default=\"{=}\"/><output_port name=\"b\" default=\"5\"/><inout_port name=\"d\"/></Action></TreeNodesModel></root>",
-        None,
-        "M: Leaf A A b=1 c={c}",
-    ),
-    (
-        "<root BTCPP_format=\"4\"><BehaviorTree ID=\"M\"><A e=\"1\"/></BehaviorTree><TreeNodesModel><Action ID=\"A\"><input_port name=\"c\" default=\"{}\"/></Action></TreeNodesModel></root>",
-        None,
-        "UnknownPort 1",
-    ),
-    (
-        "<root BTCPP_format=\"4\"><BehaviorTree ID=\"M\"><A/></BehaviorTree><TreeNodesModel><Action ID=\"A\"><input_port name=\"c\" default=\"{}\"/></Action></TreeNodesModel></root>",
-        None,
-        "BadLiteral 1",
-    ),
-];
+/// The two sides of a line: what is given, and what is wanted.
+fn row(line: &str) -> (&str, &str) {
+    line.split_once(" => ").unwrap_or((line, "?"))
+}
+
+/// A file, and the main tree that is asked for in its line.
+fn asked(given: &str) -> (&str, Option<&str>) {
+    match given.split_once(" --main ") {
+        Some((file, main)) => (file, Some(main)),
+        None => (given, None),
+    }
+}
+
+/// Files, one a line, with the main tree that is asked for, and what each is read as.
+const FILES: &str = r#"<tree/> => NotRoot 0
+<root BTCPP_format="5"><a/></root> => NotRoot 23
+<root BTCPP_format="5"/> => Format
+<root BTCPP_format=""/> => Format
+<root BTCPP_format="03"/> => Format
+<root BTCPP_format="4"/> => NoMain
+<root BTCPP_format="3"/> => NoMain
+<root/> => NoMain
+<root><a/></root> => NotRoot 6
+<root BTCPP_format="3"><BehaviorTree/><BehaviorTree ID=""/></root> => DoubleTree ''
+<root main_tree_to_execute="C"><BehaviorTree ID="A"/></root> => NoTree 'C'
+<root><BehaviorTree ID="A"/><BehaviorTree ID="B"/></root> --main A => ChildCount 0
+<root main_tree_to_execute="M"><BehaviorTree ID="M"><Sequence><A/><SubTree ID="S"/></Sequence></BehaviorTree><BehaviorTree ID="S"/></root> => ChildCount 3
+<root main_tree_to_execute="M"><BehaviorTree ID="M"><SubTree ID="S"/></BehaviorTree><BehaviorTree ID="S"><SubTreePlus ID="M"/></BehaviorTree></root> => Recursive 'M'
+<root><BehaviorTree ID="M"><A e="1"/></BehaviorTree><TreeNodesModel><Action ID="A"><input_port name="c"/></Action></TreeNodesModel></root> => UnknownPort 1
+<root><BehaviorTree ID="M"><SequenceStar><A b="1"/></SequenceStar></BehaviorTree><TreeNodesModel><Control ID="SequenceStar"/><SubTreePlus ID="S"><input_port/></SubTreePlus><Action ID="A"><input_port name="b"/><input_port name="c" default="2"/></Action></TreeNodesModel></root> => M: SequenceWithMemory SequenceWithMemory SequenceWithMemory (Leaf A A b=1 c=2)
+<root BTCPP_format="4"><BehaviorTree/><BehaviorTree ID=""/></root> => DoubleTree ''
+<root BTCPP_format="4"><BehaviorTree ID="A"/><BehaviorTree ID="B"/></root> => NoMain
+<root BTCPP_format="4" main_tree_to_execute="C"><BehaviorTree ID="A"/></root> => NoTree 'C'
+<root BTCPP_format="4" main_tree_to_execute="C"><BehaviorTree ID="A"><X/></BehaviorTree></root> --main A => A: Leaf X X
+<root BTCPP_format="4" main_tree_to_execute=""><BehaviorTree><X/></BehaviorTree><BehaviorTree ID="B"/></root> => : Leaf X X
+<root BTCPP_format="4"><BehaviorTree ID="M"/></root> => ChildCount 0
+<root BTCPP_format="4"><BehaviorTree ID="M"><SubTree ID="M"/></BehaviorTree></root> => Recursive 'M'
+<root BTCPP_format="4" main_tree_to_execute="M"><BehaviorTree ID="M"><Sequence><A/><SubTree ID="S"/></Sequence></BehaviorTree><BehaviorTree ID="S"/></root> => ChildCount 3
+<root BTCPP_format="4" main_tree_to_execute="M"><BehaviorTree ID="M"><Sequence><SubTree ID="S" a="{b}" c="{=}" d="7" _autoremap="1" name="n"/><A/></Sequence></BehaviorTree><BehaviorTree ID="S"><Inverter><B/></Inverter></BehaviorTree></root> => M: Sequence Sequence Sequence (SubTree S n a={b} c={c} d=7 autoremap (Inverter Inverter Inverter (Leaf B B))) (Leaf A A)
+<root BTCPP_format="4"><BehaviorTree ID="M"><A b="1" _x="2"/></BehaviorTree><TreeNodesModel><Action ID="A"><input_port name="c" default="{=}"/><output_port name="b" default="5"/><inout_port name="d"/></Action></TreeNodesModel></root> => M: Leaf A A b=1 c={c}
+<root BTCPP_format="4"><BehaviorTree ID="M"><A e="1"/></BehaviorTree><TreeNodesModel><Action ID="A"><input_port name="c" default="{}"/></Action></TreeNodesModel></root> => UnknownPort 1
+<root BTCPP_format="4"><BehaviorTree ID="M"><A/></BehaviorTree><TreeNodesModel><Action ID="A"><input_port name="c" default="{}"/></Action></TreeNodesModel></root> => BadLiteral 1"#;
 
 /// Each of `FILES` is read as wanted.
 #[test]
 fn files(rt: HostRuntime) -> Result<(), Fail> {
     let alloc = rt.alloc();
-    for (file, main, wanted) in &FILES {
+    for line in FILES.lines() {
+        let (given, wanted) = row(line);
+        let (file, main) = asked(given);
         assert_eq!(rt;
-            file_text(alloc, file.as_bytes(), *main)?.as_str(),
-            *wanted,
+            file_text(alloc, file.as_bytes(), main)?.as_str(),
+            wanted,
             "{file}"
         );
     }
     Ok(())
 }
 
-/// Nodes, and what the tree of each is read as, in either version.
-static NODES: [(&str, &str); 41] = [
-    ("<Sequence/>", "ChildCount 1"),
-    (
-        "<Control ID=\"Sequence\" name=\"s\"><A/></Control>",
-        "M: Sequence Sequence s (Leaf A A)",
-    ),
-    (
-        "<Decorator ID=\"Sequence\"><A/></Decorator>",
-        "UnknownNode 1",
-    ),
-    (
-        "<Sequence ID=\"X\"><A/></Sequence>",
-        "M: Sequence Sequence Sequence (Leaf A A)",
-    ),
-    ("<Sequence x=\"1\"><A/></Sequence>", "UnknownPort 1"),
-    ("<Action/>", "UnknownNode 1"),
-    ("<Action ID=\"root\"/>", "M: Leaf root root"),
-    (
-        "<Condition ID=\"A\" name=\"n\" p=\"{q}\"/>",
-        "M: Leaf A n p={q}",
-    ),
-    ("<Action ID=\"A\"><B/></Action>", "UnknownNode 1"),
-    ("<Action ID=\"AlwaysSuccess\"><B/></Action>", "ChildCount 1"),
-    ("<Control ID=\"A\"/>", "UnknownNode 1"),
-    ("<root/>", "UnknownNode 1"),
-    ("<A><B/></A>", "UnknownNode 1"),
-    ("<N x=\"{}\"/>", "BadLiteral 1"),
-    ("<N x=\"{a b}\"/>", "BadLiteral 1"),
-    (
-        "<N x=\"-0\" y=\"-7\" z=\"9223372036854775808\"/>",
-        "M: Leaf N N x='-0' y=-7 z='9223372036854775808'",
-    ),
-    (
-        "<Parallel failure_count=\"{f}\"><A/></Parallel>",
-        "M: Parallel Parallel Parallel failure_count={f} success_count=-1 (Leaf A A)",
-    ),
-    (
-        "<Switch2 variable=\"{v}\" case_2=\"b\" case_1=\"1\"><A/><B/><C/></Switch2>",
-        "M: Switch(2) Switch2 Switch2 variable={v} case_2='b' case_1=1 (Leaf A A) (Leaf B B) (Leaf C C)",
-    ),
-    (
-        "<Switch2 variable=\"{v}\" case_1=\"1\"><A/><B/><C/></Switch2>",
-        "BadLiteral 1",
-    ),
-    (
-        "<Switch2 case_3=\"c\"><A/><B/><C/></Switch2>",
-        "UnknownPort 1",
-    ),
-    (
-        "<Switch2 variable=\"\" case_1=\"\" case_2=\"\"><A/><B/></Switch2>",
-        "ChildCount 1",
-    ),
-    ("<IfThenElse><A/></IfThenElse>", "ChildCount 1"),
-    (
-        "<RetryUntilSuccessful num_attempts=\"0\"><A/></RetryUntilSuccessful>",
-        "BadLiteral 1",
-    ),
-    (
-        "<RetryUntilSuccessful num_attempts=\"-1\"><A/></RetryUntilSuccessful>",
-        "M: Retry RetryUntilSuccessful RetryUntilSuccessful num_attempts=-1 (Leaf A A)",
-    ),
-    ("<Repeat num_cycles=\"1001\"><A/></Repeat>", "BadLiteral 1"),
-    (
-        "<Timeout msec=\"4294967296\"><A/></Timeout>",
-        "BadLiteral 1",
-    ),
-    ("<Delay><A/></Delay>", "BadLiteral 1"),
-    (
-        "<RunOnce><A/></RunOnce>",
-        "M: RunOnce RunOnce RunOnce then_skip='true' (Leaf A A)",
-    ),
-    ("<RunOnce then_skip=\"2\"><A/></RunOnce>", "BadLiteral 1"),
-    ("<Script/>", "BadLiteral 1"),
-    (
-        "<Script code=\"x:=1; y=2\"/>",
-        "M: ScriptNode Script Script code:2",
-    ),
-    (
-        "<Script code=\"1.5\" _post=\"(\"/>",
-        "BadScript 1 RealNumber { place: 0 }",
-    ),
-    (
-        "<ScriptCondition code=\"x\" _while=\"x\" _skipIf=\"1;2\"/>",
-        "M: ScriptCondition ScriptCondition ScriptCondition code:1 skip_if:2 while_true:1",
-    ),
-    (
-        "<A _onHalted=\")\" _failureIf=\"\"/>",
-        "BadScript 1 Syntax { place: 0 }",
-    ),
-    (
-        "<A _post=\"1.5\" _while=\"(\"/>",
-        "BadScript 1 Syntax { place: 1 }",
-    ),
-    ("<Script x=\"{}\"/>", "UnknownPort 1"),
-    ("<N x=\"{}\" _post=\"(\"/>", "BadLiteral 1"),
-    ("<SubTree ID=\"N\" x=\"{}\"/>", "NoTree 'N'"),
-    ("<SubTree ID=\"M\" x=\"{}\"/>", "Recursive 'M'"),
-    (
-        "<Repeat num_cycles=\"1000\"><Repeat num_cycles=\"{k}\"><A/></Repeat></Repeat>",
-        "TooMuchWork",
-    ),
-    (
-        "<Sequence><A/><Inverter><B x=\"{}\"/></Inverter><Sequence/></Sequence>",
-        "BadLiteral 4",
-    ),
-];
+/// Nodes, one tree a line, and what each is read as, in either version.
+const NODES: &str = r#"<Sequence/> => ChildCount 1
+<Control ID="Sequence" name="s"><A/></Control> => M: Sequence Sequence s (Leaf A A)
+<Decorator ID="Sequence"><A/></Decorator> => UnknownNode 1
+<Sequence ID="X"><A/></Sequence> => M: Sequence Sequence Sequence (Leaf A A)
+<Sequence x="1"><A/></Sequence> => UnknownPort 1
+<Action/> => UnknownNode 1
+<Action ID="root"/> => M: Leaf root root
+<Condition ID="A" name="n" p="{q}"/> => M: Leaf A n p={q}
+<Action ID="A"><B/></Action> => UnknownNode 1
+<Action ID="AlwaysSuccess"><B/></Action> => ChildCount 1
+<Control ID="A"/> => UnknownNode 1
+<root/> => UnknownNode 1
+<A><B/></A> => UnknownNode 1
+<N x="{}"/> => BadLiteral 1
+<N x="{a b}"/> => BadLiteral 1
+<N x="-0" y="-7" z="9223372036854775808"/> => M: Leaf N N x='-0' y=-7 z='9223372036854775808'
+<Parallel failure_count="{f}"><A/></Parallel> => M: Parallel Parallel Parallel failure_count={f} success_count=-1 (Leaf A A)
+<Switch2 variable="{v}" case_2="b" case_1="1"><A/><B/><C/></Switch2> => M: Switch(2) Switch2 Switch2 variable={v} case_2='b' case_1=1 (Leaf A A) (Leaf B B) (Leaf C C)
+<Switch2 variable="{v}" case_1="1"><A/><B/><C/></Switch2> => BadLiteral 1
+<Switch2 case_3="c"><A/><B/><C/></Switch2> => UnknownPort 1
+<Switch2 variable="" case_1="" case_2=""><A/><B/></Switch2> => ChildCount 1
+<IfThenElse><A/></IfThenElse> => ChildCount 1
+<RetryUntilSuccessful num_attempts="0"><A/></RetryUntilSuccessful> => BadLiteral 1
+<RetryUntilSuccessful num_attempts="-1"><A/></RetryUntilSuccessful> => M: Retry RetryUntilSuccessful RetryUntilSuccessful num_attempts=-1 (Leaf A A)
+<Repeat num_cycles="1001"><A/></Repeat> => BadLiteral 1
+<Timeout msec="4294967296"><A/></Timeout> => BadLiteral 1
+<Delay><A/></Delay> => BadLiteral 1
+<RunOnce><A/></RunOnce> => M: RunOnce RunOnce RunOnce then_skip='true' (Leaf A A)
+<RunOnce then_skip="2"><A/></RunOnce> => BadLiteral 1
+<Script/> => BadLiteral 1
+<Script code="x:=1; y=2"/> => M: ScriptNode Script Script code:2
+<Script code="1.5" _post="("/> => BadScript 1 RealNumber { place: 0 }
+<ScriptCondition code="x" _while="x" _skipIf="1;2"/> => M: ScriptCondition ScriptCondition ScriptCondition code:1 skip_if:2 while_true:1
+<A _onHalted=")" _failureIf=""/> => BadScript 1 Syntax { place: 0 }
+<A _post="1.5" _while="("/> => BadScript 1 Syntax { place: 1 }
+<Script x="{}"/> => UnknownPort 1
+<N x="{}" _post="("/> => BadLiteral 1
+<SubTree ID="N" x="{}"/> => NoTree 'N'
+<SubTree ID="M" x="{}"/> => Recursive 'M'
+<Repeat num_cycles="1000"><Repeat num_cycles="{k}"><A/></Repeat></Repeat> => TooMuchWork
+<Sequence><A/><Inverter><B x="{}"/></Inverter><Sequence/></Sequence> => BadLiteral 4
+<RecoveryNode><A/><B/></RecoveryNode> => M: RecoveryNode RecoveryNode RecoveryNode number_of_retries=1 (Leaf A A) (Leaf B B)
+<RecoveryNode number_of_retries="{n}"><A/><B/></RecoveryNode> => M: RecoveryNode RecoveryNode RecoveryNode number_of_retries={n} (Leaf A A) (Leaf B B)
+<RecoveryNode number_of_retries="-1"><A/><B/></RecoveryNode> => BadLiteral 1
+<RecoveryNode number_of_retries="1001"><A/><B/></RecoveryNode> => BadLiteral 1
+<RecoveryNode><A/></RecoveryNode> => ChildCount 1
+<RecoveryNode><A/><B/><C/></RecoveryNode> => ChildCount 1
+<RecoveryNode number_of_retries="1000"><Repeat num_cycles="97"><A/></Repeat><B/></RecoveryNode> => M: RecoveryNode RecoveryNode RecoveryNode number_of_retries=1000 (Repeat Repeat Repeat num_cycles=97 (Leaf A A)) (Leaf B B)
+<RecoveryNode number_of_retries="1000"><Repeat num_cycles="98"><A/></Repeat><B/></RecoveryNode> => TooMuchWork
+<PipelineSequence/> => ChildCount 1
+<PipelineSequence x="1"><A/></PipelineSequence> => UnknownPort 1
+<Control ID="PipelineSequence"><A/></Control> => M: PipelineSequence PipelineSequence PipelineSequence (Leaf A A)
+<RoundRobin/> => ChildCount 1
+<RoundRobin name="r"><A/><B/></RoundRobin> => M: RoundRobin RoundRobin r (Leaf A A) (Leaf B B)
+<RateController><A/></RateController> => M: RateController RateController RateController hz=10 (Leaf A A)
+<RateController hz="0.001"><A/></RateController> => M: RateController RateController RateController hz='0.001' (Leaf A A)
+<RateController hz="0"><A/></RateController> => BadLiteral 1
+<RateController hz="1000.001"><A/></RateController> => BadLiteral 1
+<RateController hz="0.0005"><A/></RateController> => BadLiteral 1
+<RateController hz="01.5"><A/></RateController> => BadLiteral 1
+<RateController hz="1."><A/></RateController> => BadLiteral 1
+<RateController><A/><B/></RateController> => ChildCount 1"#;
 
 /// Each of `NODES` is read as wanted, in either version.
 #[test]
 fn nodes(rt: HostRuntime) -> Result<(), Fail> {
     let alloc = rt.alloc();
-    for (node, wanted) in &NODES {
-        assert_eq!(rt; node_text(alloc, FOUR, node)?.as_str(), *wanted, "{node}");
-        assert_eq!(rt; node_text(alloc, THREE, node)?.as_str(), *wanted, "{node}");
+    for line in NODES.lines() {
+        let (node, wanted) = row(line);
+        assert_eq!(rt; node_text(alloc, FOUR, node)?.as_str(), wanted, "{node}");
+        assert_eq!(rt; node_text(alloc, THREE, node)?.as_str(), wanted, "{node}");
     }
     Ok(())
 }
 
-/// Nodes that the versions read in different ways, and what the tree of each is read as in version
+/// Nodes that the versions read in different ways, one tree a line, and what each is read as in version
 /// 3 and in version 4.
-static VERSIONS: [(&str, &str, &str); 27] = [
-    (
-        "<SequenceStar/>",
-        "ChildCount 1",
-        "M: Leaf SequenceStar SequenceStar",
-    ),
-    (
-        "<SequenceStar name=\"s\"><A/></SequenceStar>",
-        "M: SequenceWithMemory SequenceWithMemory s (Leaf A A)",
-        "UnknownNode 1",
-    ),
-    (
-        "<SequenceStar x=\"1\"><A/></SequenceStar>",
-        "UnknownPort 1",
-        "UnknownNode 1",
-    ),
-    (
-        "<Control ID=\"SequenceStar\"><A/></Control>",
-        "M: SequenceWithMemory SequenceWithMemory SequenceWithMemory (Leaf A A)",
-        "UnknownNode 1",
-    ),
-    (
-        "<Action ID=\"SequenceStar\"/>",
-        "UnknownNode 1",
-        "M: Leaf SequenceStar SequenceStar",
-    ),
-    (
-        "<Action ID=\"SubTreePlus\"/>",
-        "M: Leaf SubTreePlus SubTreePlus",
-        "M: Leaf SubTreePlus SubTreePlus",
-    ),
-    (
-        "<SubTreePlus/>",
-        "NoTree ''",
-        "M: Leaf SubTreePlus SubTreePlus",
-    ),
-    (
-        "<SubTreePlus ID=\"S\"><A/></SubTreePlus>",
-        "ChildCount 1",
-        "UnknownNode 1",
-    ),
-    (
-        "<SubTreePlus ID=\"S\" a=\"{b}\" name=\"n\" _skipIf=\"1\"/>",
-        "M: SubTree S n a={b} skip_if:1 (Leaf A A)",
-        "M: Leaf SubTreePlus n a={b} skip_if:1",
-    ),
-    (
-        "<SubTreePlus ID=\"S\" _autoremap=\"0\" __autoremap=\"1\"/>",
-        "M: SubTree S S autoremap (Leaf A A)",
-        "M: Leaf SubTreePlus SubTreePlus",
-    ),
-    (
-        "<SubTreePlus ID=\"S\" _autoremap=\"true\" __autoremap=\"false\"/>",
-        "M: SubTree S S autoremap (Leaf A A)",
-        "M: Leaf SubTreePlus SubTreePlus",
-    ),
-    (
-        "<SubTreePlus ID=\"S\" _autoremap=\"0\" __autoremap=\"false\"/>",
-        "M: SubTree S S (Leaf A A)",
-        "M: Leaf SubTreePlus SubTreePlus",
-    ),
-    (
-        "<SubTreePlus ID=\"S\" __autoremap=\"yes\"/>",
-        "BadLiteral 1",
-        "M: Leaf SubTreePlus SubTreePlus",
-    ),
-    (
-        "<SubTreePlus ID=\"S\" _autoremap=\"1\" __autoremap=\"yes\"/>",
-        "BadLiteral 1",
-        "M: Leaf SubTreePlus SubTreePlus",
-    ),
-    (
-        "<SubTreePlus ID=\"S\" _autoremap=\"yes\" __autoremap=\"1\"/>",
-        "BadLiteral 1",
-        "M: Leaf SubTreePlus SubTreePlus",
-    ),
-    (
-        "<SubTreePlus ID=\"S\" _skipIf=\"(\" __autoremap=\"yes\"/>",
-        "BadLiteral 1",
-        "BadScript 1 Syntax { place: 1 }",
-    ),
-    (
-        "<Inverter __autoremap=\"yes\"><A/></Inverter>",
-        "M: Inverter Inverter Inverter (Leaf A A)",
-        "M: Inverter Inverter Inverter (Leaf A A)",
-    ),
-    (
-        "<SubTree ID=\"S\" name=\"n\"/>",
-        "M: SubTree S n (Leaf A A)",
-        "M: SubTree S n (Leaf A A)",
-    ),
-    (
-        "<SubTree ID=\"S\" a=\"b\"/>",
-        "OldSubTree 1",
-        "M: SubTree S S a='b' (Leaf A A)",
-    ),
-    (
-        "<SubTree ID=\"S\" _autoremap=\"1\"/>",
-        "OldSubTree 1",
-        "M: SubTree S S autoremap (Leaf A A)",
-    ),
-    (
-        "<SubTree ID=\"S\" __autoremap=\"yes\"/>",
-        "OldSubTree 1",
-        "M: SubTree S S (Leaf A A)",
-    ),
-    (
-        "<SubTree ID=\"S\" _skipIf=\"(\"/>",
-        "OldSubTree 1",
-        "BadScript 1 Syntax { place: 1 }",
-    ),
-    (
-        "<SubTree ID=\"S\" a=\"{}\"/>",
-        "OldSubTree 1",
-        "BadLiteral 1",
-    ),
-    (
-        "<SubTree ID=\"S\" a=\"{}\"><A/></SubTree>",
-        "ChildCount 1",
-        "ChildCount 1",
-    ),
-    (
-        "<Sequence><A/><SubTree ID=\"S\" a=\"1\"/></Sequence>",
-        "OldSubTree 3",
-        "M: Sequence Sequence Sequence (Leaf A A) (SubTree S S a=1 (Leaf A A))",
-    ),
-    (
-        "<Sequence><SubTree ID=\"S\" a=\"1\"/><N x=\"{}\"/></Sequence>",
-        "OldSubTree 2",
-        "BadLiteral 4",
-    ),
-    (
-        "<Sequence><N x=\"{}\"/><SubTree ID=\"S\" a=\"1\"/></Sequence>",
-        "BadLiteral 2",
-        "BadLiteral 2",
-    ),
-];
+const VERSIONS: &str = r#"<SequenceStar/> => ChildCount 1 => M: Leaf SequenceStar SequenceStar
+<SequenceStar name="s"><A/></SequenceStar> => M: SequenceWithMemory SequenceWithMemory s (Leaf A A) => UnknownNode 1
+<SequenceStar x="1"><A/></SequenceStar> => UnknownPort 1 => UnknownNode 1
+<Control ID="SequenceStar"><A/></Control> => M: SequenceWithMemory SequenceWithMemory SequenceWithMemory (Leaf A A) => UnknownNode 1
+<Action ID="SequenceStar"/> => UnknownNode 1 => M: Leaf SequenceStar SequenceStar
+<Action ID="SubTreePlus"/> => M: Leaf SubTreePlus SubTreePlus => M: Leaf SubTreePlus SubTreePlus
+<SubTreePlus/> => NoTree '' => M: Leaf SubTreePlus SubTreePlus
+<SubTreePlus ID="S"><A/></SubTreePlus> => ChildCount 1 => UnknownNode 1
+<SubTreePlus ID="S" a="{b}" name="n" _skipIf="1"/> => M: SubTree S n a={b} skip_if:1 (Leaf A A) => M: Leaf SubTreePlus n a={b} skip_if:1
+<SubTreePlus ID="S" _autoremap="0" __autoremap="1"/> => M: SubTree S S autoremap (Leaf A A) => M: Leaf SubTreePlus SubTreePlus
+<SubTreePlus ID="S" _autoremap="true" __autoremap="false"/> => M: SubTree S S autoremap (Leaf A A) => M: Leaf SubTreePlus SubTreePlus
+<SubTreePlus ID="S" _autoremap="0" __autoremap="false"/> => M: SubTree S S (Leaf A A) => M: Leaf SubTreePlus SubTreePlus
+<SubTreePlus ID="S" __autoremap="yes"/> => BadLiteral 1 => M: Leaf SubTreePlus SubTreePlus
+<SubTreePlus ID="S" _autoremap="1" __autoremap="yes"/> => BadLiteral 1 => M: Leaf SubTreePlus SubTreePlus
+<SubTreePlus ID="S" _autoremap="yes" __autoremap="1"/> => BadLiteral 1 => M: Leaf SubTreePlus SubTreePlus
+<SubTreePlus ID="S" _skipIf="(" __autoremap="yes"/> => BadLiteral 1 => BadScript 1 Syntax { place: 1 }
+<Inverter __autoremap="yes"><A/></Inverter> => M: Inverter Inverter Inverter (Leaf A A) => M: Inverter Inverter Inverter (Leaf A A)
+<SubTree ID="S" name="n"/> => M: SubTree S n (Leaf A A) => M: SubTree S n (Leaf A A)
+<SubTree ID="S" a="b"/> => OldSubTree 1 => M: SubTree S S a='b' (Leaf A A)
+<SubTree ID="S" _autoremap="1"/> => OldSubTree 1 => M: SubTree S S autoremap (Leaf A A)
+<SubTree ID="S" __autoremap="yes"/> => OldSubTree 1 => M: SubTree S S (Leaf A A)
+<SubTree ID="S" _skipIf="("/> => OldSubTree 1 => BadScript 1 Syntax { place: 1 }
+<SubTree ID="S" a="{}"/> => OldSubTree 1 => BadLiteral 1
+<SubTree ID="S" a="{}"><A/></SubTree> => ChildCount 1 => ChildCount 1
+<Sequence><A/><SubTree ID="S" a="1"/></Sequence> => OldSubTree 3 => M: Sequence Sequence Sequence (Leaf A A) (SubTree S S a=1 (Leaf A A))
+<Sequence><SubTree ID="S" a="1"/><N x="{}"/></Sequence> => OldSubTree 2 => BadLiteral 4
+<Sequence><N x="{}"/><SubTree ID="S" a="1"/></Sequence> => BadLiteral 2 => BadLiteral 2"#;
 
 /// Each of `VERSIONS` is read as wanted, in version 3 and in version 4.
 #[test]
 fn versions(rt: HostRuntime) -> Result<(), Fail> {
     let alloc = rt.alloc();
-    for (node, three, four) in &VERSIONS {
-        assert_eq!(rt; node_text(alloc, THREE, node)?.as_str(), *three, "{node}");
-        assert_eq!(rt; node_text(alloc, FOUR, node)?.as_str(), *four, "{node}");
+    for line in VERSIONS.lines() {
+        let (node, wanted) = row(line);
+        let (three, four) = row(wanted);
+        assert_eq!(rt; node_text(alloc, THREE, node)?.as_str(), three, "{node}");
+        assert_eq!(rt; node_text(alloc, FOUR, node)?.as_str(), four, "{node}");
     }
     Ok(())
 }

@@ -3,6 +3,7 @@
 use base_texts::Stop;
 use spec_tree_file::Element;
 use std::alloc::Global;
+use std::process::Abort;
 use std::test::Fail;
 use tree_elements::read_elements;
 
@@ -65,23 +66,107 @@ fn nested_is_read(alloc: Global, depth: usize, last: &[u8]) -> Result<bool, Fail
     Ok(bytes.len() <= 1_048_576 && read_elements(alloc, bytes.as_slice()).is_ok())
 }
 
-/// Files, and what each of them spells.
-static SPELLED: [(&[u8], &[u8]); 69] = [
-    // marks
-    (
-        b"<root BTCPP_format=\"4\"><BehaviorTree ID=\"M\"><Sequence><A/><B/></Sequence></BehaviorTree></root>",
-        b"root@0[BTCPP_format=4;](BehaviorTree@23[ID=M;](Sequence@44[](A@54[]()B@58[]())))",
-    ),
+/// Files of marks, a line each, and what each of them spells.
+const MARKS: &str =
+    r#"<root BTCPP_format="4"><BehaviorTree ID="M"><Sequence><A/><B/></Sequence></BehaviorTree></root> => root@0[BTCPP_format=4;](BehaviorTree@23[ID=M;](Sequence@44[](A@54[]()B@58[]())))
+<?xml version="1.0"?><!-- a > <b> -- ?> --><a/><!----> => a@43[]()
+<a><!--b--><?c?><d/><!--e--></a> => a@0[](d@16[]())
+<??><!--->--><a/> => a@13[]()
+<TreeNodesModel>x<!-- y -->z</TreeNodesModel> => TreeNodesModel@0[]()"#;
+
+/// Files with references, and what each of them spells.
+const REFERENCES: &str = r#"<a k='&lt;&gt;&amp;&quot;&apos;'/> => a@0[k=<>&"';]()
+<a k='&&lt &LT; &#; &#x; &#X41; &#0;'/> => a@0[k=&&lt &LT; &#; &#x; &#X41; &#0;;]()
+<a k='&#6a;&nbsp;&'/> => a@0[k=&#6a;&nbsp;&;]()"#;
+
+/// Files with a bad mark.
+const BAD_MARKS: &str = r#"<!-- x => BadMark { place: 0 }
+<!-- x -- => BadMark { place: 0 }
+<!--> => BadMark { place: 0 }
+<?> => BadMark { place: 0 }
+<?x => BadMark { place: 0 }
+<!DOCTYPE root><root/> => BadMark { place: 0 }
+<root a="1<2"/> => BadMark { place: 0 }
+<a k="1"l="2"/> => BadMark { place: 0 }
+<a k=1/> => BadMark { place: 0 }
+<a k/> => BadMark { place: 0 }
+<a k="1'/> => BadMark { place: 0 }
+<1a/> => BadMark { place: 0 }
+<-a/> => BadMark { place: 0 }
+< a/> => BadMark { place: 0 }
+<> => BadMark { place: 0 }
+< => BadMark { place: 0 }
+<a / > => BadMark { place: 0 }
+<a></a => BadMark { place: 3 }
+<a></ a> => BadMark { place: 3 }
+<a></a k='1'> => BadMark { place: 3 }
+<root => BadMark { place: 0 }"#;
+
+/// Files whose marks do not match.
+const UNMATCHED: &str = r#" => Unmatched { place: 0 }
+<!--a--> => Unmatched { place: 8 }
+<a><b></b> => Unmatched { place: 10 }
+<root/><root/> => Unmatched { place: 7 }
+<a></a></a> => Unmatched { place: 7 }
+</a> => Unmatched { place: 0 }
+<root></Root> => Unmatched { place: 6 }
+<a><b></a></b> => Unmatched { place: 6 }"#;
+
+/// Marks with two attributes of one name.
+const DOUBLES: &str = r#"<a k="1" k="1"/> => DoubleAttribute { place: 0 }
+<a><b k='1' l='2' k='3'></a> => DoubleAttribute { place: 3 }"#;
+
+/// Files with a stray text.
+const TEXTS: &str = r#"x => StrayText { place: 0 }
+x<a/> => StrayText { place: 0 }
+<root>x</root> => StrayText { place: 6 }
+<a><TreeNodesModel/>x</a> => StrayText { place: 20 }
+<TreeNodesModel></TreeNodesModel> x => StrayText { place: 34 }"#;
+
+/// Files with two faults, of which the first is told.
+const FIRST_OF_TWO: &str = r#"x< => StrayText { place: 0 }
+<a/><b k='1' k='2'/> => DoubleAttribute { place: 4 }
+<a/><b k='1' k='2' => BadMark { place: 4 }
+<a k='1' k='2'/><!-- => DoubleAttribute { place: 0 }
+</b x></a> => BadMark { place: 0 }"#;
+
+/// Compares files, a line each, with what is wanted.
+fn compare(rt: &impl Abort, alloc: Global, rows: &str) -> Result<(), Fail> {
+    for row in rows.lines() {
+        let (file, want) = row.split_once(" => ").unwrap_or((row, "?"));
+        let bytes = outcome(alloc, file.as_bytes())?;
+        assert_eq!(rt;
+            str::from_utf8(bytes.as_slice()).unwrap_or("?"),
+            want,
+            "{file}"
+        );
+    }
+    Ok(())
+}
+
+/// Each file has its outline or its fault.
+#[test]
+fn elements_and_faults(rt: HostRuntime) -> Result<(), Fail> {
+    for rows in [
+        MARKS,
+        REFERENCES,
+        BAD_MARKS,
+        UNMATCHED,
+        DOUBLES,
+        TEXTS,
+        FIRST_OF_TWO,
+    ] {
+        compare(&rt, rt.alloc(), rows)?;
+    }
+    Ok(())
+}
+
+/// Files with bytes that a line can't show, and what each of them spells.
+static BYTES: [(&[u8], &[u8]); 20] = [
     (
         b"\n<a\tk = \"1\" l='x \"y\"' >\r\n</a >\r\n",
         b"a@1[k=1;l=x \"y\";]()",
     ),
-    (
-        b"<?xml version=\"1.0\"?><!-- a > <b> -- ?> --><a/><!---->",
-        b"a@43[]()",
-    ),
-    (b"<a><!--b--><?c?><d/><!--e--></a>", b"a@0[](d@16[]())"),
-    (b"<??><!--->--><a/>", b"a@13[]()"),
     (b"\xEF\xBB\xBF<a/>", b"a@3[]()"),
     (
         b"<a-b.c:d \xC3\xA9-1='\xC3\xA9'/>",
@@ -97,96 +182,32 @@ static SPELLED: [(&[u8], &[u8]); 69] = [
         b"a@0[](TreeNodesModel@3[](b@25[]()))",
     ),
     (
-        b"<TreeNodesModel>x<!-- y -->z</TreeNodesModel>",
-        b"TreeNodesModel@0[]()",
-    ),
-    // references
-    (b"<a k='&lt;&gt;&amp;&quot;&apos;'/>", b"a@0[k=<>&\"';]()"),
-    (
         b"<a k='&#65;&#x41;&#x4a;&#0065;&#xe9;&#x1F600;'/>",
         b"a@0[k=AAJA\xC3\xA9\xF0\x9F\x98\x80;]()",
     ),
     (b"<a k='&#10;&amp;lt;'/>", b"a@0[k=\n&lt;;]()"),
     (
-        b"<a k='&&lt &LT; &#; &#x; &#X41; &#0;'/>",
-        b"a@0[k=&&lt &LT; &#; &#x; &#X41; &#0;;]()",
-    ),
-    (
         b"<a k='&#xD800;&#xDFFF;&#x110000;&#4294967361;&#xD7FF;'/>",
         b"a@0[k=&#xD800;&#xDFFF;&#x110000;&#4294967361;\xED\x9F\xBF;]()",
     ),
-    (b"<a k='&#6a;&nbsp;&'/>", b"a@0[k=&#6a;&nbsp;&;]()"),
-    // not UTF-8
     (b"\xFF", b"NotUtf8 { place: 0 }"),
     (b"x<a>\xC3</a>", b"NotUtf8 { place: 4 }"),
     (b"<a/>\xF0\x9F\x98", b"NotUtf8 { place: 4 }"),
-    // bad marks
-    (b"<!-- x", b"BadMark { place: 0 }"),
-    (b"<!-- x --", b"BadMark { place: 0 }"),
-    (b"<!-->", b"BadMark { place: 0 }"),
-    (b"<?>", b"BadMark { place: 0 }"),
-    (b"<?x", b"BadMark { place: 0 }"),
     (b"<!-- \x00 --><a/>", b"BadMark { place: 0 }"),
     (b"<?\x00?><a/>", b"BadMark { place: 0 }"),
-    (b"<!DOCTYPE root><root/>", b"BadMark { place: 0 }"),
-    (b"<root a=\"1<2\"/>", b"BadMark { place: 0 }"),
     (b"<a k=\"\x00\"/>", b"BadMark { place: 0 }"),
-    (b"<a k=\"1\"l=\"2\"/>", b"BadMark { place: 0 }"),
-    (b"<a k=1/>", b"BadMark { place: 0 }"),
-    (b"<a k/>", b"BadMark { place: 0 }"),
-    (b"<a k=\"1'/>", b"BadMark { place: 0 }"),
-    (b"<1a/>", b"BadMark { place: 0 }"),
-    (b"<-a/>", b"BadMark { place: 0 }"),
-    (b"< a/>", b"BadMark { place: 0 }"),
-    (b"<>", b"BadMark { place: 0 }"),
-    (b"<", b"BadMark { place: 0 }"),
-    (b"<a / >", b"BadMark { place: 0 }"),
-    (b"<a></a", b"BadMark { place: 3 }"),
-    (b"<a></ a>", b"BadMark { place: 3 }"),
-    (b"<a></a k='1'>", b"BadMark { place: 3 }"),
-    (b"<root", b"BadMark { place: 0 }"),
-    // marks that do not match
-    (b"", b"Unmatched { place: 0 }"),
     (b" \n", b"Unmatched { place: 2 }"),
     (b"\xEF\xBB\xBF", b"Unmatched { place: 3 }"),
-    (b"<!--a-->", b"Unmatched { place: 8 }"),
-    (b"<a><b></b>", b"Unmatched { place: 10 }"),
-    (b"<root/><root/>", b"Unmatched { place: 7 }"),
-    (b"<a></a></a>", b"Unmatched { place: 7 }"),
-    (b"</a>", b"Unmatched { place: 0 }"),
-    (b"<root></Root>", b"Unmatched { place: 6 }"),
-    (b"<a><b></a></b>", b"Unmatched { place: 6 }"),
-    // attributes of one name
-    (b"<a k=\"1\" k=\"1\"/>", b"DoubleAttribute { place: 0 }"),
-    (
-        b"<a><b k='1' l='2' k='3'></a>",
-        b"DoubleAttribute { place: 3 }",
-    ),
-    // text
-    (b"x", b"StrayText { place: 0 }"),
-    (b"x<a/>", b"StrayText { place: 0 }"),
-    (b"<root>x</root>", b"StrayText { place: 6 }"),
     (b"<a>\n\xC2\xA0</a>", b"StrayText { place: 4 }"),
     (b"<a/>\n&", b"StrayText { place: 5 }"),
     (b"\xEF\xBB\xBF\xEF\xBB\xBF<a/>", b"StrayText { place: 3 }"),
-    (b"<a><TreeNodesModel/>x</a>", b"StrayText { place: 20 }"),
-    (
-        b"<TreeNodesModel></TreeNodesModel> x",
-        b"StrayText { place: 34 }",
-    ),
-    // the first of two
-    (b"x<", b"StrayText { place: 0 }"),
-    (b"<a/><b k='1' k='2'/>", b"DoubleAttribute { place: 4 }"),
-    (b"<a/><b k='1' k='2'", b"BadMark { place: 4 }"),
-    (b"<a k='1' k='2'/><!--", b"DoubleAttribute { place: 0 }"),
-    (b"</b x></a>", b"BadMark { place: 0 }"),
 ];
 
-/// Each of `SPELLED` has its outline or its fault.
+/// Each of `BYTES` has its outline or its fault.
 #[test]
-fn elements_and_faults(rt: HostRuntime) -> Result<(), Fail> {
+fn bytes(rt: HostRuntime) -> Result<(), Fail> {
     let alloc = rt.alloc();
-    for (bytes, want) in &SPELLED {
+    for (bytes, want) in &BYTES {
         assert_eq!(rt; outcome(alloc, bytes)?.as_slice(), *want);
     }
     Ok(())
