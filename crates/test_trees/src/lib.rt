@@ -4,11 +4,7 @@
 #[cfg(test)]
 mod dead;
 #[cfg(test)]
-mod grounds;
-#[cfg(test)]
 mod limits;
-#[cfg(test)]
-mod plans;
 #[cfg(test)]
 mod printed;
 #[cfg(test)]
