@@ -4,7 +4,7 @@ use base_outside::{MemClock, MemSink};
 use base_texts::NoMemory;
 use std::alloc::Global;
 use std::test::Fail;
-use test_bed::{answer, given, shelf_of};
+use test_bed::{Ending, answer, given, shelf_of};
 
 /// A robot among places.
 const PLACES: &str =
@@ -212,13 +212,18 @@ fn sizes_are_told(rt: HostRuntime) -> Result<(), Fail> {
     Ok(())
 }
 
-/// How the drivers are left by a write of `ground` that fails after `taken` bytes, and what is written.
-fn cut(alloc: Global, write: u64, taken: u64) -> Result<String, NoMemory> {
+/// How `ground` of the robot among places ends over this sink.
+fn ended(alloc: Global, sink: &mut MemSink) -> Result<Ending, NoMemory> {
     let file = ground_of(alloc, PLACES)?;
     let mut shelf = shelf_of(alloc, b"", file.as_bytes(), &[])?;
-    let mut sink = MemSink::new(alloc, vec![in alloc; (write, taken)]?);
     let mut clock = MemClock::new(Vec::new(alloc));
-    let ending = answer(alloc, &["ground", "W"], &mut shelf, &mut sink, &mut clock)?;
+    answer(alloc, &["ground", "W"], &mut shelf, sink, &mut clock)
+}
+
+/// How the drivers are left by a write of `ground` that fails after `taken` bytes, and what is written.
+fn cut(alloc: Global, write: u64, taken: u64) -> Result<String, NoMemory> {
+    let mut sink = MemSink::new(alloc, vec![in alloc; (write, taken)]?);
+    let ending = ended(alloc, &mut sink)?;
     let text = str::from_utf8(sink.list()).unwrap_or("?");
     Ok(format!(in alloc; "{text}{:?} {}{}", ending.exit, ending.holds, ending.counts)?)
 }

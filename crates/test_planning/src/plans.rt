@@ -4,7 +4,7 @@ use base_outside::{MemClock, MemSink};
 use base_texts::NoMemory;
 use std::alloc::Global;
 use std::test::Fail;
-use test_bed::{answer, given, shelf_of_rows, tree_of, world_of};
+use test_bed::{Ending, answer, given, shelf_of_rows, tree_of, world_of};
 
 /// An item is picked and placed.
 const PICK: &str =
@@ -398,13 +398,18 @@ fn a_plan_is_no_flat_sequence_of_actions(rt: HostRuntime) -> Result<(), Fail> {
     Ok(())
 }
 
+/// How `plan` of a world of these lines ends over this sink.
+fn ended(alloc: Global, lines: &str, sink: &mut MemSink) -> Result<Ending, NoMemory> {
+    let mut shelf = shelf_of_rows(alloc, "<A/>", lines)?;
+    let mut clock = MemClock::new(Vec::new(alloc));
+    answer(alloc, &["plan", "W"], &mut shelf, sink, &mut clock)
+}
+
 /// What is printed of a plan where the write of this number fails after `taken` bytes, with the exit
 /// after it and whether the drivers hold anything.
 fn cut(alloc: Global, lines: &str, write: u64, taken: u64) -> Result<String, NoMemory> {
-    let mut shelf = shelf_of_rows(alloc, "<A/>", lines)?;
     let mut sink = MemSink::new(alloc, vec![in alloc; (write, taken)]?);
-    let mut clock = MemClock::new(Vec::new(alloc));
-    let ending = answer(alloc, &["plan", "W"], &mut shelf, &mut sink, &mut clock)?;
+    let ending = ended(alloc, lines, &mut sink)?;
     let text = str::from_utf8(sink.list()).unwrap_or("?");
     Ok(format!(in alloc; "{text}{:?} {}", ending.exit, ending.holds)?)
 }

@@ -10,4 +10,6 @@ mod printed;
 #[cfg(test)]
 mod refusals;
 #[cfg(test)]
+mod rows;
+#[cfg(test)]
 mod words;
