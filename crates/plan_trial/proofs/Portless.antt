@@ -29,7 +29,7 @@ use Rattle.spec_world.specs.declared.world.What.TheVariants.{Tick, Halt, Change,
 use Rattle.spec_world.specs.declared.world.World.{World}
 use Rattle.spec_run.specs.Done.{Call, Done, State, done}
 use Rattle.spec_run.specs.Leaf.{leaf_rule, rule_of}
-use Rattle.spec_run.specs.Leaves.{inputs_of, instance_at, leaf_call, phase_of, reply_answer, row_of, sight}
+use Rattle.spec_run.specs.Leaves.{inputs_of, instance_asked, leaf_call, phase_of, reply_answer, row_of, sight}
 use Rattle.spec_run.specs.Ports.{value_at}
 use Rattle.spec_run.specs.Run.{RunState, Runner, Stepped, Trace, before_rest, finish, finishes, opening, reset_step, root_reset, root_told, root_view, run_from, run_over, runner_at, settled, state_of, step, step_by, tell_step, tick_step, ticked, told, with_runner}
 use Rattle.spec_run.specs.Sites.{Meaning, Site, remembered}
@@ -76,7 +76,7 @@ module _ (world : World) where
   leaf_meets None is site seen st ms s fits = done_meets portless _ ms s fits
   leaf_meets (Some row) is site seen st ms s fits =
       let phase : Phase = phase_of st in
-      let i : Instance = instance_at s site.uid in
+      let i : Instance = instance_asked site row phase s in
       let no_inputs : inputs_of site s row ≡ [] = ap (λ (ports : List (List ℕ)). map (λ name. sight (value_at site s name)) ports) is.none in
       let there : ReplyThere (leaf_rule world.facts row phase i [] s.facts s.moment).reply = portless_there world.facts s.facts fits world.rows row is.valid is.none phase i s.moment in
       record {

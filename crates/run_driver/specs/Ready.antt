@@ -1,8 +1,8 @@
 -- Rows made ready, as the rules that they stand for, and the facts that they look at.
-use Rattle.std.specs.Prelude.{ℕ, ◌+◌, List, [], Option, Some, None, option_map}
+use Rattle.std.specs.Prelude.{ℕ, ◌+◌, Bool, List, [], Option, Some, None, option_map}
 use Rattle.spec_script.specs.Entries.{look_of}
 use Rattle.script_code.specs.Codes.{formula}
-use Rattle.spec_run.specs.Leaf.{Number, Test, Way, Tests, Lasts, Replays, Waits, Heeds, Obeys, sights, as_number, truth_of, comparison}
+use Rattle.spec_run.specs.Leaf.{Number, Test, Way, Tests, Lasts, Replays, Waits, Heeds, Obeys, is_told_way, sights, as_number, truth_of, comparison}
 use Rattle.run_driver.specs.declared.expression.ReadyExpr.{ReadyExpr}
 use Rattle.run_driver.specs.declared.sort.ReadySort.{ReadySort}
 use Rattle.run_driver.specs.declared.sort.ReadySort.TheVariants as sort
@@ -24,6 +24,10 @@ ready_way (sort.Replay ms outcomes) = Replays ms outcomes
 ready_way (sort.Gate test) = Waits (ready_test test)
 ready_way sort.Sensed = Heeds
 ready_way (sort.Told outs) = Obeys
+
+-- whether its leaves are told what they answer
+abbrev pub is_ready_told : ReadySort → Bool
+is_ready_told sort = is_told_way (ready_way sort)
 
 -- the outputs for which a leaf may be told a value
 abbrev pub ready_told : ReadySort → List (List ℕ)

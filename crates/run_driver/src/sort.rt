@@ -20,3 +20,15 @@ pub enum ReadySort {
     /// An action that is held until it is told how it ended; the outputs for which it may be told a value.
     Told { outs: Items<Name> },
 }
+
+impl ReadySort {
+    ghost use Rattle.std.specs.Prelude.{◌≡◌};
+    ghost use Rattle.run_driver.specs.Ready.{is_ready_told};
+
+    /// Whether the leaves of a row are told what they answer.
+    pub fn is_told(&self) -> bool
+        ensures { result ≡ is_ready_told self.now }
+    {
+        matches!(self, ReadySort::Sensed | ReadySort::Told { .. })
+    }
+}

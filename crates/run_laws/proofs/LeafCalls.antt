@@ -25,15 +25,16 @@ use Rattle.spec_world.specs.declared.world.Row.{Row}
 use Rattle.spec_world.specs.declared.world.ToldOut.{ToldOut}
 use Rattle.spec_world.specs.Worlds.{outs_told}
 use Rattle.spec_run.specs.Done.{State}
-use Rattle.spec_run.specs.Leaf.{Answered, fresh, leaf_rule, rule_of, start_of}
+use Rattle.spec_run.specs.Leaf.{Answered, Rule, fresh, is_told_way, rule_of, start_of}
 use Rattle.base_tables.specs.Outputs.{since_after}
-use Rattle.spec_run.specs.Leaves.{inputs_of, instance_at, leaf_call, phase_of, reply_answer, reply_board, told_for, with_output, with_outputs, with_told, with_value}
+use Rattle.spec_run.specs.Leaves.{inputs_of, instance_asked, instance_at, leaf_answered, leaf_call, phase_of, reply_answer, reply_board, told_for, with_output, with_outputs, with_told, with_value, values_of}
 use Rattle.spec_run.specs.Ports.{given_at}
 use Rattle.base_tables.specs.Shapes.{AllIdle, Lasts, Shape}
 use Rattle.spec_run.specs.Sites.{Site, View, slot_at}
 use Rattle.base_tables.specs.Sound.{Left, Leaves, NodeRule, Within, held_at, is_held, statuses}
 use Rattle.spec_run.specs.Steps.{Given}
 use Rattle.spec_run.specs.Visit.{status_of}
+use Rattle.base_tables.proofs.Asked.{asked_deaf, asked_since, deaf_where_broken, start_same}
 use Rattle.base_tables.proofs.Calls.{as_many_facts, call_keeps, held_while_running, running_lasts}
 use Rattle.run_laws.proofs.Parts.{held_same, within_more, within_same}
 use Rattle.run_laws.proofs.Children.{Family, SoundAll, all_move}
@@ -166,11 +167,13 @@ pub leaf_call_leaves : (F : Family) (node : Term-F F.Child) (view : View) (uid :
 leaf_call_leaves F node view uid (Some row) st memo ms s sound own =
     let site : Site = site_here F node view uid in
     let p : Phase = phase_of st in
-    let i : Instance = instance_at s uid in
-    let a : Answered = leaf_rule view.facts row p i (inputs_of site s row) s.facts s.moment in
+    let i : Instance = instance_asked site row p s in
+    let a : Answered = leaf_answered site row st s in
+    let same : i.since ≡ (instance_at s uid).since = asked_since (rule_of view.facts row).way p (values_of site s row) (instance_at s uid) in
     by_reply F node view uid ms s (idle_of st node.ports (Some row) s.moment memo (statuses ms) own.shape) sound row p a
     (as_many_facts (rule_of view.facts row) p i (inputs_of site s row) s.facts s.moment) (is_held st Leaf) own.held a.reply
-    (held_while_running (rule_of view.facts row) p i (inputs_of site s row) s.facts s.moment)
+    (held_while_running (rule_of view.facts row) p i (inputs_of site s row) s.facts s.moment
+    ∙ (λ k. since_after a.reply (start_same p i (instance_at s uid) s.moment same k) (same k)))
     (running_lasts view.facts row p i (inputs_of site s row) s.facts s.moment)
 leaf_call_leaves F node view uid None st memo ms s sound own = record {
   sound = sound;
@@ -180,12 +183,18 @@ leaf_call_leaves F node view uid None st memo ms s sound own = record {
 
 -- a call that ends with a fault changes nothing
 pub broken_changes_nothing : (site : Site) (row : Row) (st : Status) (ms : List Memory) (s : State) (cause : Cause) →
-    (leaf_rule site.view.facts row (phase_of st) (instance_at s site.uid) (inputs_of site s row) s.facts s.moment).reply ≡ reply.Broken cause →
+    (leaf_answered site row st s).reply ≡ reply.Broken cause →
     (leaf_call (Some row) site st ms s).state ≡ s
 broken_changes_nothing site row st ms s cause broken =
-    let a : Answered = leaf_rule site.view.facts row (phase_of st) (instance_at s site.uid) (inputs_of site s row) s.facts s.moment in
-    let same : (a.instance ≡ instance_at s site.uid) × (a.facts ≡ s.facts) = (call_keeps (rule_of site.view.facts row) (phase_of st) (instance_at s site.uid) (inputs_of site s row) s.facts s.moment).breaks cause broken in
-    let instances : slice_set s.instances site.uid a.instance ≡ s.instances = ap (λ (i : Instance). slice_set s.instances site.uid i) same.0 ∙ set-get_or s.instances site.uid fresh in
+    let a : Answered = leaf_answered site row st s in
+    let rule : Rule = rule_of site.view.facts row in
+    let p : Phase = phase_of st in
+    let asked : Instance = instance_asked site row p s in
+    let same : (a.instance ≡ asked) × (a.facts ≡ s.facts) = (call_keeps rule p asked (inputs_of site s row) s.facts s.moment).breaks cause broken in
+    let deaf : is_told_way rule.way ≡ false =
+    deaf_where_broken rule.way rule (start_of p asked s.moment) asked (inputs_of site s row) s.facts s.moment cause broken in
+    let stays : a.instance ≡ instance_at s site.uid = same.0 ∙ sym (asked_deaf rule.way p (values_of site s row) (instance_at s site.uid) deaf) in
+    let instances : slice_set s.instances site.uid a.instance ≡ s.instances = ap (λ (i : Instance). slice_set s.instances site.uid i) stays ∙ set-get_or s.instances site.uid fresh in
     ap (λ (r : Reply). record { board = reply_board site row a s.board r; facts = a.facts; instances = slice_set s.instances site.uid a.instance; moment = s.moment }) broken
     ∙ ap (λ (facts : List ℤ). record { board = s.board; facts = facts; instances = slice_set s.instances site.uid a.instance; moment = s.moment }) same.1
     ∙ ap (λ (is : List Instance). record { board = s.board; facts = s.facts; instances = is; moment = s.moment }) instances

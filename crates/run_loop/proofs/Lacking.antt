@@ -18,7 +18,7 @@ use Rattle.spec_world.specs.declared.world.What.TheVariants.{Tick, Halt, Change,
 use Rattle.spec_world.specs.declared.world.World.{World}
 use Rattle.spec_world.specs.Worlds.{is_told, outs_told}
 use Rattle.spec_run.specs.Joins.{event_lacks, first_untold, is_leaf, lacks_output, lacks_telling, row_at, row_of_node}
-use Rattle.spec_run.specs.Leaf.{Rule, Way, Heeds, Obeys, place_of, way_of}
+use Rattle.spec_run.specs.Leaf.{Rule, is_told_way, place_of, way_of}
 use Rattle.spec_run.specs.Leaves.{row_of}
 use Rattle.spec_run.specs.Run.{root_view}
 use Rattle.spec_run.specs.Sites.{View}
@@ -26,31 +26,17 @@ use Rattle.spec_tree.specs.Terms.{node_count}
 use Rattle.spec_tree.specs.Trees.{Node as TreeNode, nodes_of}
 use Rattle.run_driver.specs.declared.sort.ReadySort.{ReadySort}
 use Rattle.run_driver.specs.declared.sort.ReadySort.TheVariants as ready
-use Rattle.run_driver.specs.Ready.{ready_told, ready_way}
+use Rattle.run_driver.specs.Ready.{is_ready_told, ready_told}
 use Rattle.run_arena.specs.declared.nodes.Node.{Node}
 use Rattle.run_arena.specs.declared.nodes.ReadyLeaf.{ReadyLeaf}
 use Rattle.run_arena.specs.Nodes.{IsLeafOf, LeafStands, leaf_at, nobody}
 use Rattle.run_arena.specs.Stands.{Stands}
-use Rattle.run_loop.specs.Fitting.{first_lack, is_ready_told, leaf_lacks, names_lack, nodes_lack}
+use Rattle.run_loop.specs.Fitting.{first_lack, leaf_lacks, names_lack, nodes_lack}
 use Rattle.run_loop.proofs.Matched.{all_said, matched, said_from}
 
 -- ---- The outputs for which a leaf may be told values
 
--- whether a leaf that answers so is told what it answers
-abbrev is_told_way : Way → Bool
-is_told_way Heeds = true
-is_told_way Obeys = true
-is_told_way _ = false
-
-ready_told_way : (s : ReadySort) → is_ready_told s ≡ is_told_way (ready_way s)
-ready_told_way ready.Sensed = refl
-ready_told_way (ready.Told outs) = refl
-ready_told_way (ready.Is fact op value) = refl
-ready_told_way (ready.When test) = refl
-ready_told_way (ready.Timed ms fails) = refl
-ready_told_way (ready.Replay ms outcomes) = refl
-ready_told_way (ready.Gate test) = refl
-
+-- a row that was made ready answers by what it is told where the row does
 told_way : (places : List ℕ → ℕ) (s : RowSort) → is_told_way (way_of places s) ≡ is_told s
 told_way places sort.Sensed = refl
 told_way places (sort.Told outs) = refl
@@ -104,7 +90,7 @@ row_by None uid t = refl
 row_names : (view : View) (node : TreeNode) (leaf : ReadyLeaf) (found : Option Row) → MatchOption found ⊥ (IsLeafOf view node.ports leaf) → names_of_leaf (Some leaf) ≡ names_of_row found
 row_names view node leaf None stands = absurd stands
 row_names view node leaf (Some row) stands =
-    let told : is_ready_told leaf.row.sort ≡ is_told row.sort = ready_told_way leaf.row.sort ∙ ap (λ (r : Rule). is_told_way r.way) stands.rule ∙ told_way (place_of row.ports view.facts) row.sort in
+    let told : is_ready_told leaf.row.sort ≡ is_told row.sort = ap (λ (r : Rule). is_told_way r.way) stands.rule ∙ told_way (place_of row.ports view.facts) row.sort in
     λ i. names_if (told i) (stands.told i)
 
 own_names : (rows : List Row) (view : View) (node : TreeNode) (found : Option ReadyLeaf) → view.rows ≡ rows → LeafStands view node found → names_of_leaf found ≡ names_of_node rows node

@@ -27,7 +27,7 @@ use Rattle.spec_tree.specs.Trees.{nodes_of}
 use Rattle.run_laws.proofs.Events.{step_steady}
 use Rattle.run_driver.specs.declared.sort.ReadySort.{ReadySort}
 use Rattle.run_driver.specs.declared.sort.ReadySort.TheVariants as ready
-use Rattle.run_driver.specs.Ready.{ready_way}
+use Rattle.run_driver.specs.Ready.{is_ready_told, ready_way}
 use Rattle.run_arena.specs.declared.block.Block.{Block}
 use Rattle.run_arena.specs.declared.nodes.Node.{Node}
 use Rattle.run_arena.specs.declared.nodes.ReadyLeaf.{ReadyLeaf}
@@ -40,7 +40,7 @@ use Rattle.run_loop.specs.declared.hearing.Message.{Message}
 use Rattle.run_loop.specs.declared.runs.ReadyRunner.{ReadyRunner}
 use Rattle.run_loop.specs.declared.runs.Runs.{Runs}
 use Rattle.run_loop.specs.Ending.{IsQuenched}
-use Rattle.run_loop.specs.Fitting.{is_ready_told, leaf_lacks}
+use Rattle.run_loop.specs.Fitting.{leaf_lacks}
 use Rattle.run_loop.specs.Hearing.{CanHear, Tells, message_step}
 use Rattle.run_loop.specs.Parts.{scene_of}
 use Rattle.run_loop.specs.Runs.{AreRuns, RunnerFits, RunnersFit, arenas_of, roster_over, runner_in, runners_in, state_of_runs}

@@ -1,5 +1,5 @@
 -- What is missing for what the nodes of an arena are told.
-use Rattle.std.specs.Prelude.{ℕ, Bool, true, false, if◌then◌else◌, List, [], ◌∷◌, Option, Some, None, bytes_eq}
+use Rattle.std.specs.Prelude.{ℕ, Bool, if◌then◌else◌, List, [], ◌∷◌, Option, Some, None, bytes_eq}
 use Rattle.std.specs.List.{list_all, list_any}
 use Rattle.std.specs.Option.{option_or}
 use Rattle.spec_run.specs.declared.join_fault.JoinFault.{JoinFault}
@@ -11,17 +11,10 @@ use Rattle.spec_world.specs.declared.world.ToldOut.{ToldOut}
 use Rattle.spec_world.specs.declared.world.What.{What}
 use Rattle.spec_world.specs.declared.world.What.TheVariants.{Tell}
 use Rattle.run_driver.specs.declared.sort.ReadySort.{ReadySort}
-use Rattle.run_driver.specs.declared.sort.ReadySort.TheVariants as sort
-use Rattle.run_driver.specs.Ready.{ready_told}
+use Rattle.run_driver.specs.Ready.{is_ready_told, ready_told}
 use Rattle.run_arena.specs.declared.nodes.Node.{Node}
 use Rattle.run_arena.specs.declared.nodes.ReadyLeaf.{ReadyLeaf}
 use Rattle.run_arena.specs.Nodes.{leaf_at}
-
--- whether the leaves of a row that was made ready are told what they answer
-abbrev pub is_ready_told : ReadySort → Bool
-is_ready_told sort.Sensed = true
-is_ready_told (sort.Told outs) = true
-is_ready_told _ = false
 
 -- one of these names is that of an output that is told
 abbrev pub is_named : List (List ℕ) → ToldOut → Bool

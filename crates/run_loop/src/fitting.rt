@@ -7,7 +7,7 @@ ghost use Rattle.spec_run.specs.Served.{Setup};
 ghost use Rattle.spec_tree.specs.Trees.{nodes_of};
 ghost use Rattle.spec_world.specs.Worlds.{IsValidWorld};
 ghost use Rattle.run_driver.specs.Ready.{ready_told};
-ghost use Rattle.run_loop.specs.Fitting.{first_lack, is_named, is_ready_told, nodes_lack, sort_lacks};
+ghost use Rattle.run_loop.specs.Fitting.{first_lack, is_named, nodes_lack, sort_lacks};
 ghost use Rattle.run_loop.specs.Runs.{AreRuns};
 
 use crate::runs::Runs;
@@ -15,13 +15,6 @@ use run_arena::Node;
 use run_driver::ReadySort;
 use spec_run::JoinFault;
 use spec_world::{Event, Telling, ToldOut, What};
-
-/// Whether the leaves of a row are told what they answer.
-fn is_told(sort: &ReadySort) -> bool
-    ensures { result ≡ is_ready_told sort.now }
-{
-    matches!(sort, ReadySort::Sensed | ReadySort::Told { .. })
-}
 
 /// Whether the leaves of a row may be told a value for this output.
 fn has_out(sort: &ReadySort, out: &ToldOut) -> bool
@@ -45,7 +38,7 @@ fn has_outs(sort: &ReadySort, outs: &[ToldOut]) -> bool
 fn sort_fits(sort: &ReadySort, uid: u32, telling: &Telling) -> Result<(), JoinFault>
     ensures { result_err result ≡ sort_lacks sort.now uid telling.now }
 {
-    if !is_told(sort) {
+    if !sort.is_told() {
         return Err(JoinFault::NoLeaf { uid });
     }
     match telling {

@@ -20,8 +20,8 @@ use Rattle.spec_world.specs.declared.world.ToldOut.{ToldOut}
 use Rattle.spec_world.specs.Worlds.{is_told, outs_told, ports_written}
 use Rattle.spec_run.specs.Done.{State}
 use Rattle.spec_run.specs.Drivers.{DriverState}
-use Rattle.spec_run.specs.Leaf.{Answered, Rule, leaf_rule, padded, rule_answer}
-use Rattle.spec_run.specs.Leaves.{called, inputs_of, instance_at, phase_of, reply_board, row_of, sight, told_for, with_output, with_outputs, with_told, with_value}
+use Rattle.spec_run.specs.Leaf.{Answered, Rule, asked, leaf_rule, padded, rule_answer, rule_of}
+use Rattle.spec_run.specs.Leaves.{called, inputs_of, instance_asked, instance_at, leaf_answered, phase_of, reply_board, row_of, sight, told_for, with_output, with_outputs, with_told, with_value}
 use Rattle.spec_run.specs.Ports.{given_at, value_at}
 use Rattle.spec_run.specs.Sites.{Meaning, Site, View}
 use Rattle.spec_run.specs.Visit.{site_of}
@@ -37,7 +37,7 @@ use Rattle.run_arena.specs.Scenes.{Scene}
 use Rattle.run_arena.specs.declared.source.Source.{Source}
 use Rattle.run_arena.specs.Sources.{source_at, source_of}
 use Rattle.run_arena.specs.Stands.{written}
-use Rattle.run_nodes.specs.Calls.{board_left, leaf_answer, leaf_written, number_written, outputs_written, seen_inputs, told_written, value_written}
+use Rattle.run_nodes.specs.Calls.{board_left, leaf_answer, leaf_written, number_written, outputs_written, seen_inputs, told_written, value_written, values_held}
 use Rattle.run_nodes.specs.Here.{FitsHere}
 use Rattle.run_nodes.proofs.PortValues.{given_means}
 
@@ -82,6 +82,11 @@ module _ (term : Term-F Meaning) (view : View) (uid : ℕ) (s : State) where
       seen_inputs s.board (map (λ name. source_at view term.ports name) names) ≡ map (λ name. sight (value_at (site_of term view uid) s name)) names
   inputs_mean [] = refl
   inputs_mean (name ∷ names) = λ i. sight (given_means (site_of term view uid) s (given_at (site_of term view uid) name) i) ∷ inputs_mean names i
+
+  values_mean : (names : List (List ℕ)) →
+      values_held s.board (map (λ name. source_at view term.ports name) names) ≡ map (λ name. value_at (site_of term view uid) s name) names
+  values_mean [] = refl
+  values_mean (name ∷ names) = λ i. given_means (site_of term view uid) s (given_at (site_of term view uid) name) i ∷ values_mean names i
 
   -- what the ports of these names are given
   abbrev sources_of : List (List ℕ) → List Source
@@ -128,10 +133,13 @@ module _ (term : Term-F Meaning) (view : View) (uid : ℕ) (s : State) where
 
     -- what the driver answers is what the leaf rule says
     pub answer_means : (drivers : List DriverState) (status : Status) → instance_at s uid ≡ leaf_instance drivers (Some leaf) →
-        leaf_answer leaf status s.board s.facts drivers s.moment
-        ≡ leaf_rule view.facts row (phase_of status) (instance_at s uid) (inputs_of (site_of term view uid) s row) s.facts s.moment
+        leaf_answer leaf status s.board s.facts drivers s.moment ≡ leaf_answered (site_of term view uid) row status s
     answer_means drivers status instance =
-        ap (λ (r : Rule). rule_answer r (phase_of status) (leaf_instance drivers (Some leaf)) (padded (seen_inputs s.board leaf.inputs)) s.facts s.moment) k.rule
-        ∙ (λ i. leaf_rule view.facts row (phase_of status) (sym instance i) (padded (seen_inputs s.board (k.inputs i))) s.facts s.moment)
-        ∙ ap (λ (inputs : List Seen). leaf_rule view.facts row (phase_of status) (instance_at s uid) (padded inputs) s.facts s.moment) (inputs_mean row.ports)
-        ∙ padding_is_nothing view.facts row (phase_of status) (instance_at s uid) (inputs_of (site_of term view uid) s row) s.facts s.moment
+        let p = phase_of status in
+        let way = (rule_of view.facts row).way in
+        let before = leaf_instance drivers (Some leaf) in
+        let seen = padded (seen_inputs s.board leaf.inputs) in
+        ap (λ (r : Rule). rule_answer r p (asked r.way p (values_held s.board leaf.inputs) before) seen s.facts s.moment) k.rule
+        ∙ (λ i. leaf_rule view.facts row p (asked way p (values_held s.board (k.inputs i)) (sym instance i)) (padded (seen_inputs s.board (k.inputs i))) s.facts s.moment)
+        ∙ (λ i. leaf_rule view.facts row p (asked way p (values_mean row.ports i) (instance_at s uid)) (padded (inputs_mean row.ports i)) s.facts s.moment)
+        ∙ padding_is_nothing view.facts row p (instance_asked (site_of term view uid) row p s) (inputs_of (site_of term view uid) s row) s.facts s.moment

@@ -9,6 +9,7 @@ pub mod MadeCalls
 pub mod Needed
 pub mod Phases
 pub mod PortValues
+pub mod Readied
 pub mod Settled
 pub mod Standing
 pub mod ToldLeaves

@@ -26,6 +26,7 @@ use Rattle.spec_run.specs.Sites.{Meaning, View}
 use Rattle.spec_run.specs.Steps.{Given}
 use Rattle.spec_run.specs.Visit.{site_of}
 use Rattle.run_driver.specs.Rules.{rule}
+use Rattle.base_tables.proofs.Asked.{asked_since}
 use Rattle.base_tables.proofs.Calls.{as_many_facts, held_while_running}
 use Rattle.run_arena.specs.declared.nodes.Kept.{Kept}
 use Rattle.run_arena.specs.declared.nodes.Node.{Node}
@@ -38,7 +39,7 @@ use Rattle.run_arena.specs.Scenes.{Scene, marks_of, state_in}
 use Rattle.run_arena.specs.declared.source.Source.{Source}
 use Rattle.run_arena.specs.Sources.{IsSourceOf}
 use Rattle.run_arena.proofs.Called.{instance_at_uid, instances_called, marks_called, roster_after_call, served_after}
-use Rattle.run_nodes.specs.Calls.{CanBeCalled, IsInPhase, as_given, board_left, leaf_answer, mark_left, seen_inputs}
+use Rattle.run_nodes.specs.Calls.{CanBeCalled, IsInPhase, as_given, board_left, instance_kept, leaf_answer, mark_left, seen_inputs, values_held}
 use Rattle.run_nodes.specs.Here.{FitsHere, in_stop}
 use Rattle.run_nodes.proofs.Answering.{HasRow, answer_means, board_means, has_row, named_once}
 
@@ -77,14 +78,15 @@ pub record WasCalled (nodes : List Node) (uid : ℕ) (leaf : ReadyLeaf) (now : �
 
 module _ (nodes : List Node) (uid : ℕ) (leaf : ReadyLeaf) (now : ℕ) (status : Status) (a : Answered) (before after : Scene) (was : WasCalled nodes uid leaf now status a before after) where
   abbrev instance : Instance
-  instance = leaf_instance before.drivers (Some leaf)
+  instance = instance_kept leaf status before.board before.drivers
 
   -- ---- What stays
 
   mark_right : AreServed before.drivers nodes → marks_of before.kept ≡ map is_held (instances_of nodes before.drivers) → mark_left a.reply (kept_at before.kept uid).held ≡ is_held a.instance
   mark_right are marks =
       let inputs = padded (seen_inputs before.board leaf.inputs) in
-      let right = mark_is nodes before.kept before.drivers uid marks ∙ ap (λ o. is_held (leaf_instance before.drivers o)) was.here in
+      let since = asked_since (rule leaf.row).way (phase_of status) (values_held before.board leaf.inputs) (leaf_instance before.drivers (Some leaf)) in
+      let right = mark_is nodes before.kept before.drivers uid marks ∙ ap (λ o. is_held (leaf_instance before.drivers o)) was.here ∙ ap is_some (sym since) in
       let held = held_while_running (rule leaf.row) (phase_of status) instance inputs before.facts now in
       mark_by a.reply (kept_at before.kept uid).held (start_of (phase_of status) instance now) instance.since right
       ∙ ap (λ (x : Answered). is_some (since_after x.reply (start_of (phase_of status) instance now) instance.since)) was.answered

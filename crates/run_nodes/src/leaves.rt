@@ -1,4 +1,4 @@
-ghost use Rattle.std.specs.Prelude.{◌≡◌, ◌+◌, ◌≤◌, ◌<◌, ◌++◌, ℕ, List, OnErr, OnOk, Some, bytes_eq, false, length, replicate, slice_set};
+ghost use Rattle.std.specs.Prelude.{◌≡◌, ◌+◌, ◌≤◌, ◌<◌, ◌++◌, ℕ, List, IfOk, OnErr, OnOk, Some, bytes_eq, false, length, replicate, slice_set};
 ghost use Rattle.std.specs.List.{All, IsDistinct, position_or_len};
 ghost use Rattle.spec_script.specs.declared.cells.Seen.TheVariants.{Absent};
 ghost use Rattle.spec_run.specs.declared.leaf.Instance.{Instance as Held};
@@ -14,19 +14,20 @@ ghost use Rattle.run_driver.specs.Ready.{ready_told};
 ghost use Rattle.run_arena.specs.Ends.{StaysFit};
 ghost use Rattle.run_arena.specs.Nodes.{kept_at, leaf_at};
 ghost use Rattle.run_arena.specs.Rosters.{IsServed};
-ghost use Rattle.run_arena.specs.Sources.{IsSourceOf};
+ghost use Rattle.run_arena.specs.Sources.{IsSourceOf, source_value};
 ghost use Rattle.run_arena.specs.Stages.{IsSame, MeetsOn, scene_on};
-ghost use Rattle.run_nodes.specs.Calls.{CallableOn, IsInPhase, WasAsked, answer_on, answer_to, as_given, board_left, mark_left};
-ghost use Rattle.run_nodes.specs.Calls.{leaf_written, number_written, outputs_written, seen_inputs, told_written, value_written};
+ghost use Rattle.run_nodes.specs.Calls.{CallableOn, IsInPhase, IsReadied, WasAsked, answer_on, answer_to, as_given, board_left, mark_left};
+ghost use Rattle.run_nodes.specs.Calls.{leaf_written, number_written, outputs_written, seen_inputs, told_written, value_written, values_held};
 ghost use Rattle.run_nodes.specs.Here.{FitsHereOn, call_on, in_stop};
 
-use crate::sources::seen_of;
-use base_texts::{Name, Stop};
+use crate::sources::{seen_of, value_of};
+use base_texts::{Items, Name, NoMemory, Stop};
 use run_arena::{Kept, Notes, ReadyLeaf, Source, Stage, set_held};
 use run_driver::{Call, CallPhase, Drivers, Inputs, Outs, ReadySort};
 use spec_run::{Answer, NodeFault, Note, Reply, Status};
 use spec_script::{Cells, Seen, Value};
 use spec_world::ToldOut;
+use std::alloc::Global;
 use tree_board::Board;
 
 /// The inputs that a driver sees of a leaf without inputs.
@@ -44,6 +45,33 @@ fn see_inputs(sources: &[Source], board: &Board, inputs: &mut Inputs)
     for (place, source) in sources.iter().enumerate() {
         inputs[place] = seen_of(source, board);
     }
+}
+
+/// A copy of the value that a port is given; none where it has none. The error is want of memory.
+fn copy_value(alloc: Global, source: &Source, board: &Board) -> Result<Option<Value>, NoMemory>
+    requires { IsSourceOf (length board.now) source.now }
+    ensures { IfOk result (λ value. value ≡ source_value board.now source.now) }
+{
+    match value_of(source, board) {
+        Some(value) => Ok(Some(value.copy(alloc)?)),
+        None => Ok(None),
+    }
+}
+
+/// Copies of what these inputs hold. The error is want of memory.
+fn copy_values(
+    alloc: Global,
+    sources: &[Source],
+    board: &Board,
+) -> Result<Items<Option<Value>>, NoMemory>
+    requires { All (IsSourceOf (length board.now)) sources.now }
+    ensures { IfOk result (λ values. values ≡ values_held board.now sources.now) }
+{
+    let mut values = Vec::with_capacity(alloc, sources.len())?;
+    for source in sources {
+        values.push(copy_value(alloc, source, board)?)?;
+    }
+    Ok(Items::of(values))
 }
 
 /// Writes a number where a slot is given.
@@ -168,6 +196,52 @@ fn asked_at(status: Status) -> CallPhase
     match status {
         Status::Running => CallPhase::Running,
         _ => CallPhase::Start,
+    }
+}
+
+/// Lets the driver of a leaf of this status with inputs keep what they hold, where the leaf is told what it answers and is
+/// to begin. It is not inlined since most leaves have none. The error is want of memory: then nothing has changed.
+#[inline(never)]
+fn keep_start<D: Drivers>(
+    stage: &mut Stage<D>,
+    leaf: &ReadyLeaf,
+    status: Status,
+) -> Result<(), NoMemory>
+    requires callable { CallableOn D.states stage.old status leaf.now }
+    requires inputs { 0 < length leaf.now.inputs }
+    ensures ok { OnOk result (IsReadied D.states status leaf.now stage.old stage.new) }
+    ensures err { OnErr result (stage.new ≡ stage.old) }
+{
+    if !leaf.row.get().sort.is_told() {
+        return Ok(());
+    }
+    match asked_at(status) {
+        CallPhase::Running => Ok(()),
+        CallPhase::Start => {
+            let inputs = copy_values(stage.alloc, leaf.inputs.list(), stage.board)?;
+            stage
+                .drivers
+                .keep_inputs(leaf.driver, leaf.instance, inputs);
+            Ok(())
+        }
+    }
+}
+
+/// Lets the driver of a leaf of this status keep the inputs of a start where it is to. The error is want of memory: then
+/// nothing has changed.
+#[inline(always)]
+fn keep_inputs<D: Drivers>(
+    stage: &mut Stage<D>,
+    leaf: &ReadyLeaf,
+    status: Status,
+) -> Result<(), NoMemory>
+    requires { CallableOn D.states stage.old status leaf.now }
+    ensures ok { OnOk result (IsReadied D.states status leaf.now stage.old stage.new) }
+    ensures err { OnErr result (stage.new ≡ stage.old) }
+{
+    match leaf.inputs.list() {
+        [] => Ok(()),
+        _ => keep_start(stage, leaf, status),
     }
 }
 
@@ -313,8 +387,8 @@ fn tell(
 
 /// Calls the driver of the leaf with this uid, with its inputs: to go on where it is RUNNING, else to
 /// begin. On SUCCESS its outputs are written. The place of the note is reserved before the call,
-/// so that each call that was made has its note. The error is the leaf's fault, or want of memory,
-/// which comes before the call.
+/// so that each call that was made has its note, and so are the inputs that its driver is to keep.
+/// The error is the leaf's fault, or want of memory, which comes before the call.
 #[inline(always)]
 pub fn leaf_call<D: Drivers>(
     stage: &mut Stage<D>,
@@ -334,6 +408,7 @@ pub fn leaf_call<D: Drivers>(
 {
     stage.notes.room()?;
     let status = stage.kept[uid as usize].status;
+    keep_inputs(stage, leaf, status)?;
     let reply = make_call(stage, leaf, status);
     mark(reply, uid, stage.kept);
     tell(reply, status, uid, stage.notes)

@@ -23,8 +23,8 @@ use Rattle.spec_tree.specs.declared.term.Term.TheFolds.{map-Term}
 use Rattle.spec_world.specs.declared.world.Row.{Row}
 use Rattle.spec_tree.specs.BuiltIns.{has_rule}
 use Rattle.spec_run.specs.Done.{Done, State, following, done, ends, follow}
-use Rattle.spec_run.specs.Leaf.{Answered, leaf_rule}
-use Rattle.spec_run.specs.Leaves.{called, gives, inputs_of, instance_at, leaf_call, phase_of, reply_answer, reply_board, reply_notes, row_of, script_condition, script_node}
+use Rattle.spec_run.specs.Leaf.{Answered}
+use Rattle.spec_run.specs.Leaves.{called, gives, leaf_answered, leaf_call, phase_of, reply_answer, reply_board, reply_notes, row_of, script_condition, script_node}
 use Rattle.spec_run.specs.Ports.{new_memo, picked}
 use Rattle.spec_run.specs.Rules.Kinds.{rule}
 use Rattle.spec_run.specs.Run.{settled}
@@ -152,7 +152,7 @@ module _ (is_dead : ℕ → Bool) (rows : List Row) (F : Family is_dead rows) (n
     leaf_left : (o : Option Row) (st : Status) (ms : List Memory) (s : State) → (o ≡ None → ⊥) → Below true ms → Ruled Leaf s (leaf_call o here st ms s)
     leaf_left None st ms s there all = absurd (there refl)
     leaf_left (Some row) st ms s there all =
-        let a : Answered = leaf_rule view.facts row (phase_of st) (instance_at s uid) (inputs_of here s row) s.facts s.moment in
+        let a : Answered = leaf_answered here row st s in
         reply_left row (phase_of st) a ms s all a.reply
 
     script_left_here : (code : Option Script) (ms : List Memory) (s : State) → HasCode ScriptNode code → Below true ms → Ruled ScriptNode s (script_node code here ms s)
