@@ -79,7 +79,7 @@ def of_read(command: Command, what: str) -> List[str]:
     helps = meant(os.path.basename(name), beside(name)) if why == MISSING else []
     if name.startswith("-"):
         helps = [f"the word {name} stands where the file's name is expected: options come after the files"]
-        helps += [f"`bt {command.name} --help` tells the words of it"] if name in HELP else []
+        helps += [f"`bt {command.name.split()[0]} --help` tells the words of it"] if name in HELP else []
     return [f"{name or repr(name)}: error: the {what} file can't be read: {why}"] + ["  help: " + text for text in helps]
 
 
