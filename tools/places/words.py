@@ -95,7 +95,9 @@ def wrong(words: List[str]) -> Optional[str]:
         return f"{name}: {form.operands[len(rest)]} is missing"
     if form.operands == ("N",) and not in_range(form, "N", rest[0]):
         return out_of_range(name, form, "N", rest[0])
-    return wrong_options(name, form, rest[len(form.operands):])
+    problem = wrong_options(name, form, rest[len(form.operands):])
+    early = [word for word in rest[:len(form.operands)] if word in form.options]
+    return f"{name}: {early[0]} comes after the files" if problem is not None and early else problem
 
 
 def options_in(rest: List[str]) -> Iterator[Tuple[str, Optional[str]]]:
@@ -110,6 +112,8 @@ def wrong_options(name: str, form: Form, rest: List[str]) -> Optional[str]:
     """What is wrong with the words after the operands."""
     seen = []
     for word, value in options_in(rest):
+        if f"{name} {word}" == PRINTING:
+            return f"{name}: {word} comes before the files"
         if word not in form.options:
             what = f"'{word}' is no option of it" if word.startswith("-") else f"'{word}' is one word too many"
             return f"{name}: {what}" + "".join(": " + line for line in meant(word, form.options))
