@@ -206,7 +206,11 @@ static WORDS: [(&[&str], &[u64], &str); 11] = [
         &[],
         "refused words\nWords",
     ),
-    (&["mock", "--print", "T", "R"], &[], "refused rules Json\nRules"),
+    (
+        &["mock", "--print", "T", "R"],
+        &[],
+        "refused rules Json\nRules",
+    ),
     (
         &["mock", "--print", "T", "R", "--main", "M"],
         &[],
@@ -217,8 +221,16 @@ static WORDS: [(&[&str], &[u64], &str); 11] = [
         &[],
         "refused tree NoTree 'N'\nTree",
     ),
-    (&["mock", "--print", "T", "R"], &[1], "refused read tree\nRead"),
-    (&["mock", "--print", "T", "R"], &[2], "refused read rules\nRead"),
+    (
+        &["mock", "--print", "T", "R"],
+        &[1],
+        "refused read tree\nRead",
+    ),
+    (
+        &["mock", "--print", "T", "R"],
+        &[2],
+        "refused read rules\nRead",
+    ),
 ];
 
 /// The tree file is read first, and the rules after it, and no other file.

@@ -56,9 +56,18 @@ static WORDS: [(&[&str], &str); 28] = [
     (&["check", "T"], TWO_CHECKS_PRINTED),
     (&["check", "T", "--main", "M"], TWO_CHECKS_PRINTED),
     (&["check", "T", "--strict"], TWO_CHECKS_PRINTED),
-    (&["check", "T", "--strict", "--main", "M"], TWO_CHECKS_PRINTED),
-    (&["check", "T", "--main", "M", "--strict"], TWO_CHECKS_PRINTED),
-    (&["check", "T", "--strict", "--strict"], "refused words\nWords"),
+    (
+        &["check", "T", "--strict", "--main", "M"],
+        TWO_CHECKS_PRINTED,
+    ),
+    (
+        &["check", "T", "--main", "M", "--strict"],
+        TWO_CHECKS_PRINTED,
+    ),
+    (
+        &["check", "T", "--strict", "--strict"],
+        "refused words\nWords",
+    ),
     (&["check", "--strict", "T"], "refused words\nWords"),
     (
         &["check", "T", "--main", "--strict"],

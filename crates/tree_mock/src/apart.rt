@@ -117,7 +117,9 @@ fn add_openings<'a>(
 fn is_opened_elsewhere(found: &[Opening], id: &Name, path: &Name) -> bool
     ensures { result ≡ list_any (λ opening. bytes_eq opening.id.now id.now && not (bytes_eq opening.path path.now)) found.now }
 {
-    found.iter().any(|opening| opening.id == id && opening.path != *path)
+    found
+        .iter()
+        .any(|opening| opening.id == id && opening.path != *path)
 }
 
 /// The ID with the path after it in parentheses.
