@@ -1,9 +1,10 @@
 -- A term whose openings are told apart, by what its children become, and where it opens trees.
-use Rattle.std.proofs.Common.{◌≡◌, ◌≢◌, ℕ, List, [], ◌∷◌, ◌++◌, map, refl, ap, ◌∙◌}
+use Rattle.std.proofs.Common.{◌≡◌, ◌≢◌, ℕ, List, [], ◌∷◌, ◌++◌, map, refl, ap, ◌∙◌, arith}
 use Rattle.std.specs.Prelude.{◌==◌, ◌&&◌, ◌||◌, true, false, length, is_some, not}
 use Rattle.std.specs.List.{flat_map, list_any}
+use Rattle.std.proofs.lemmas.Bool.Decides.{nat_tests}
 use Rattle.std.specs.Str.{bytes_eq}
-use Rattle.spec_program.specs.ToldApart.{Apart, Opening, apart, apart_at, apart_over, is_opened_elsewhere, opening_at, openings, own_id, renamed}
+use Rattle.spec_program.specs.ToldApart.{Apart, Opening, apart, apart_at, apart_over, is_opened_elsewhere, opening_at, openings, renamed}
 use Rattle.spec_tree.specs.declared.term.Term.{Term, Term-F, fold_out-Term, out-Term}
 use Rattle.spec_tree_file.specs.declared.mock_rules.Rules.{Rules}
 use Rattle.spec_tree_file.specs.Substitutions.{inside, rule_of}
@@ -76,7 +77,7 @@ elsewhere (o ∷ found) id path = ap (λ any. (bytes_eq o.id.now id && not (byte
 
 pub empty_of : {A : Type 0} (xs : List A) → (length xs == 0) ≡ true → xs ≡ []
 empty_of [] e = refl
-empty_of (x ∷ xs) e = cc
+empty_of (x ∷ xs) e = let none : length (x ∷ xs) ≡ 0 = grind (arith, nat_tests) in absurd (omega (arith, none))
 
 pub filled_of : {A : Type 0} (xs : List A) → (length xs == 0) ≡ false → xs ≢ []
 filled_of [] e = cc

@@ -2,7 +2,7 @@ use Rattle.std.proofs.Common.{◌≡◌, ◌++◌, List, map, ap, sym, subst, �
 use Rattle.std.specs.Prelude.{OnOk}
 use Rattle.std.specs.List.{flat_map}
 use Rattle.spec_program.specs.ToldApart.{Opening, opening_at, openings}
-use Rattle.spec_tree.specs.declared.term.Term.{Term, out-Term}
+use Rattle.spec_tree.specs.declared.term.Term.{out-Term}
 use Rattle.spec_tree_file.specs.Substitutions.{inside}
 use Rattle.tree_mock.specs.Seen.{opening_seen}
 use Rattle.tree_mock.proofs.Parting.{openings_of}

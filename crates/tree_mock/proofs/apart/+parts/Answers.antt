@@ -1,6 +1,6 @@
-use Rattle.std.proofs.Common.{◌≡◌, ◌≢◌, ◌∙◌, List, [], map, length, sym, ap, subst}
+use Rattle.std.proofs.Common.{◌≡◌, ◌∙◌, List, map, length, sym, ap, subst}
 use Rattle.std.specs.Prelude.{◌==◌, IfOk}
-use Rattle.spec_program.specs.ToldApart.{Apart, Opening, apart}
+use Rattle.spec_program.specs.ToldApart.{Apart}
 use Rattle.spec_tree.specs.declared.term.Term.{Term, out-Term}
 use Rattle.tree_mock.specs.Seen.{opening_seen}
 use Rattle.tree_mock.proofs.Parting.{apart_inner, apart_lone, empty_of, filled_of}
