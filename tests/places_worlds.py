@@ -136,6 +136,9 @@ READS = [
     read("a name misspelled", "tree", "check TT", "there is no such file", "did you mean T?"),
     read("an option in the place of a file", "tree", "check -h", "the word -h stands where the file's name is expected",
          "`bt check --help` tells the words of it"),
+    read("the option of a mocked tree in the place of a file", "world", "mock T --print W", "the word --print stands where", "--print comes before the files"),
+    read("the same misspelled", "tree", "mock --prnt T W", "the word --prnt stands where", "--print comes before the files"),
+    read("another option of mocks there", "world", "mock T --main W", "the word --main stands where", "options come after the files"),
     read("mistake 11, file name", "tree", "check delivr.xml", "there is no such file"),
     read("a folder", "tree", "check .", "it is a folder", asked=False),
     read("a long name", "tree", "check " + "x" * 300, "file name too long", asked=False),
@@ -255,6 +258,14 @@ WORDS = [
     words("a number of leaves", "load 01", "N is a number from 1 to 1000"),
     words("a number of sequences", "plan W --expand 121", "--expand is a number from 0 to 120"),
     words("an option of another command", "plan W --main M", "'--main' is no option of it"),
+    words("an option before the file", "check --strict T", "check: --strict comes after the files"),
+    words("an option with its value before the files", "mock --print --main M T R", "mock --print: --main comes after the files"),
+    words("a strict check misspelled", "check T --strct", "'--strct' is no option of it: did you mean --strict?"),
+    words("strict twice", "check T --strict --strict", "--strict stands twice"),
+    words("strict with a value", "check T --strict M", "'M' is one word too many"),
+    words("a mocked tree without its rules", "mock --print T", "mock --print: RULES is missing"),
+    words("a mocked tree with a world", "mock --print T W R", "'R' is one word too many"),
+    words("the option of a mocked tree at the end", "mock T W R --print", "mock: --print comes before the files"),
 ]
 
 CASES = WORLDS + UNASKED + PLANS + READS + GROUNDS + MOCKS + WORDS

@@ -54,7 +54,7 @@ _bt_words() {
 }
 
 _bt() {
-    local word=${COMP_WORDS[COMP_CWORD]} help command sorts=() options=() commands usage text
+    local word=${COMP_WORDS[COMP_CWORD]} help command sorts=() options=() commands lines usage other text place=2
     COMPREPLY=()
     help=$(readlink -f -- "$(type -P -- "$1")") && help=${help%/*}/tools/help && [ -d "$help" ] || return
     commands=$(cd "$help" && echo [[:lower:]]*)
@@ -64,17 +64,27 @@ _bt() {
     esac
     [ "$COMP_CWORD" != 1 ] || return
     command=${COMP_WORDS[1]}
-    [[ $command == [[:lower:]]* && -f $help/$command ]] && read -ra usage <"$help/$command" || return
-    for text in "${usage[@]:3}"; do
+    [[ $command == [[:lower:]]* && -f $help/$command ]] && mapfile -t -n 2 lines <"$help/$command" || return
+    read -ra usage <<<"${lines[0]#usage: }"
+    read -ra other <<<"${lines[1]-}"
+    # Another way to call the command begins with an option.
+    if [[ $COMP_CWORD == 2 && ${other[2]-} == --* ]]; then
+        options+=("${other[2]}")
+    elif [[ ${other[2]-} == --* && ${COMP_WORDS[2]} == "${other[2]}" ]]; then
+        usage=("${other[@]:1}") place=3
+    fi
+    for text in "${usage[@]:2}"; do
         case $command,$text in
             *,TREE) sorts+=(xml) ;;
             ground,WORLD | gplan,WORLD) sorts+=(ground) ;;
             *,WORLD) sorts+=(world) ;;
             *,RULES) sorts+=('rules json') ;;
-            *,--* | *,\[--*) options+=("${text#[}") ;;
+            *,--* | *,\[--*)
+                text=${text#[}
+                options+=("${text%]}") ;;
         esac
     done
-    _bt_words 2
+    _bt_words "$place"
 }
 
 _bt_names() {

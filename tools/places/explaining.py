@@ -8,7 +8,7 @@ from . import grounds
 from .faults import cause_said, explained, quenched
 from .marks import Finding
 from .mocks import mocked, rule_warnings
-from .near import Effort, meant
+from .near import Effort, meant, near
 from .opening import open_file, opened
 from .plans import Planned, planned
 from .report import Note, Place, Report, warning_lines
@@ -78,8 +78,10 @@ def of_read(command: Command, what: str) -> List[str]:
         return []
     helps = meant(os.path.basename(name), beside(name)) if why == MISSING else []
     if name.startswith("-"):
-        helps = [f"the word {name} stands where the file's name is expected: options come after the files"]
-        helps += [f"`bt {command.name} --help` tells the words of it"] if name in HELP else []
+        is_print = command.name == "mock" and "--print" in [name, *near(name, ["--print"])]
+        where = "--print comes before the files" if is_print else "options come after the files"
+        helps = [f"the word {name} stands where the file's name is expected: {where}"]
+        helps += [f"`bt {command.name.split()[0]} --help` tells the words of it"] if name in HELP else []
     return [f"{name or repr(name)}: error: the {what} file can't be read: {why}"] + ["  help: " + text for text in helps]
 
 

@@ -19,12 +19,13 @@ UID = re.compile(r"::[0-9]+")
 
 @dataclass
 class Mocked:
-    """A tree that rules made: the file with its nodes, the configuration of each leaf that answers by one, and which nodes
-    of the tree before each rule replaced."""
+    """A tree that rules made: the file with its nodes, the configuration of each leaf that answers by one, which nodes of the
+    tree before each rule replaced, and the uids of the nodes that rules put in, and of those above one."""
 
     file: TreeFile
     configured: Dict[int, Configuration] = field(default_factory=dict)
     replaced: Dict[str, List[Node]] = field(default_factory=dict)
+    changed: Set[int] = field(default_factory=set)
 
 
 def path_of(node: Node) -> str:
@@ -71,10 +72,14 @@ class Making:
         rule = None if node.children else rule_of(self.rules, node)
         if rule is not None:
             self.made.replaced.setdefault(rule.pattern.value, []).append(node)
-            return self.replace(node, rule, inside, depth)
+            made = self.replace(node, rule, inside, depth)
+            self.made.changed.add(made.uid)
+            return made
         made = self.add(node.kind, node.id, node.element, depth, node, inside)
         around = made if node.kind == "SubTree" else inside
         made.children = [self.copy(child, around, depth + 1) for child in node.children]
+        if any(child.uid in self.made.changed for child in made.children):
+            self.made.changed.add(made.uid)
         return made
 
     def replace(self, node: Node, rule: Rule, inside: Optional[Node], depth: int) -> Node:

@@ -1,10 +1,10 @@
-"""An opened tree as a tree file, in the form in which `bt check` prints it."""
+"""An opened tree as a tree file, in the form in which `bt check` prints it, and `bt mock --print` one that rules make."""
 
-from typing import Dict, Iterator, List, Optional, Tuple
+from typing import AbstractSet, Dict, Iterator, List, Optional, Tuple
 
 from .built_ins import GUARDS, KEPT, NODES, WITH_CODE, is_identifier
 from .marks import Finding
-from .mocks import mocked
+from .mocks import mocked, path_of
 from .opening import opened
 from .rules import read_rules
 from .source import read
@@ -63,11 +63,13 @@ def mark(file: TreeFile, node: Node, id_: str) -> Tuple[str, str]:
 
 
 class Printing:
-    """Prints the main tree and each tree that is opened once; where two openings of one differ, the later one by an ID of
-    its own, which has the uid of its SubTree node."""
+    """Prints the main tree and each tree that is opened once. An opening in which rules replace a node, as `changed` says of the
+    uids, has its path in its ID where its tree is opened at another path too."""
 
-    def __init__(self, file: TreeFile):
+    def __init__(self, file: TreeFile, changed: AbstractSet[int]):
         self.file = file
+        self.changed = changed
+        self.openings = [(node.id, path_of(node)) for node in file.nodes if node.kind == "SubTree"]
         self.bodies: Dict[str, List[str]] = {}
 
     def body(self, node: Node, indent: str) -> List[str]:
@@ -81,25 +83,18 @@ class Printing:
 
     def opened(self, node: Node) -> str:
         """The ID of the tree that a SubTree node opens."""
-        if node.id not in self.bodies:
-            self.bodies[node.id] = []
-            self.bodies[node.id] += self.body(node.children[0], INDENT)
-            return node.id
-        other = Printing(self.file)
-        other.bodies = self.bodies
-        lines = other.body(node.children[0], INDENT)
-        if lines == self.bodies[node.id]:
-            return node.id
-        id_ = f"{node.id} ({node.uid})"
-        while id_ in self.bodies or id_ in self.file.trees:
-            id_ += "+"
-        self.bodies[id_] = lines
+        id_, path = node.id, path_of(node)
+        if node.uid in self.changed and any(other == id_ and where != path for other, where in self.openings):
+            id_ += f" ({path})"
+        if id_ not in self.bodies:
+            self.bodies[id_] = []
+            self.bodies[id_] += self.body(node.children[0], INDENT)
         return id_
 
 
-def printed(file: TreeFile) -> str:
-    """The text of an opened tree."""
-    printing = Printing(file)
+def printed(file: TreeFile, changed: AbstractSet[int] = frozenset()) -> str:
+    """The text of an opened tree, or of one that rules made."""
+    printing = Printing(file, changed)
     main = printing.bodies.setdefault(file.main, [])
     main += printing.body(file.nodes[0], INDENT)
     lines = [f'<root BTCPP_format="4" main_tree_to_execute={spelled(file.main)}>']
@@ -112,6 +107,7 @@ def mocked_text(tree: str, main: Optional[str], rules: str) -> Optional[str]:
     """The text of the tree that mock rules make of a tree file; none where a file can't be read as the program has read it."""
     file, source = opened(tree, main), read(rules)
     try:
-        return None if file is None or source is None else printed(mocked(file, read_rules(source)).file)
+        made = None if file is None or source is None else mocked(file, read_rules(source))
+        return None if made is None else printed(made.file, made.changed)
     except Finding:
         return None

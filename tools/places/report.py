@@ -23,8 +23,9 @@ MOST_WARNINGS, MOST_FOUND = 20, 500
 # a variable of the environment: where it is set, a tool that fails in itself says so, and is not silent
 FAILS_ALOUD = "BT_FAILS_ALOUD"
 
-# how long a tool that explains or warns may work, in seconds; what it does is bounded otherwise
-MOST_SECONDS = 1.0
+# how long a tool that explains or warns may work, in seconds, and how long where a build waits for its answer; what it does is
+# bounded otherwise
+MOST_SECONDS, MOST_STRICT = 1.0, 60.0
 
 
 @dataclass(frozen=True)
@@ -121,13 +122,13 @@ def warning_lines(reports: List[Report]) -> List[str]:
     return lines + [f"bt: {more} more warning{'s' * (more > 1)}"] if more > 0 else lines
 
 
-def end_after(seconds: float) -> None:
-    """Lets the process end without a word more when it has worked so long. The processor's time counts, so a machine that is
-    busy with other work changes nothing."""
+def end_after(seconds: float, status: int = 0) -> None:
+    """Lets the process end with this status when it has worked so long, at 0 without a word. The processor's time counts, so a
+    machine that is busy with other work changes nothing."""
     def end(*_: object) -> None:
-        if FAILS_ALOUD in os.environ:
+        if FAILS_ALOUD in os.environ or status:
             os.write(2, b"the time is over\n")
-        os._exit(int(FAILS_ALOUD in os.environ))
+        os._exit(status or int(FAILS_ALOUD in os.environ))
 
     signal.signal(signal.SIGPROF, end)
     signal.setitimer(signal.ITIMER_PROF, seconds)

@@ -80,6 +80,10 @@ def characters(part: bytes) -> str:
     return part.decode("utf-8", "replace")
 
 
+class Unlike(Exception):
+    """A file, of this name, is not as the program has read it: it is a pipe, or has changed since."""
+
+
 class NoFile(OSError):
     """That a name is one of a pipe or a device, which may have no end and can be read only once."""
 

@@ -7,14 +7,16 @@ from typing import Dict, Iterable, Iterator, List, Optional, Set, Tuple
 from .built_ins import ABSENT, GUARDS
 from .explaining import run_of
 from .keys import key_warnings, literal_warnings
-from .marks import Attribute, Element
+from .marks import Attribute, Element, Finding
 from .mocks import rule_warnings
 from .near import Effort, distance, listed, near, plain
 from .opening import opened
 from .ports import input_warnings, leaf_warnings, like_warnings, row_warnings, test_warnings
 from .report import MOST_FOUND, Place, Report
+from .rules import Rules, read_rules
+from .source import Unlike, read
 from .trees import MODELS, PORTS, Node, TreeFile, is_remapped
-from .words import Command
+from .words import PRINTING, Command
 from .worlds import World
 
 # what editors and the library write into files, and the program reads over by design
@@ -27,17 +29,32 @@ NUMBER = re.compile(r"\(node [0-9]+\)")
 
 
 def command_warnings(command: Command) -> List[Report]:
-    """The warnings of the files that a command names; none where they can't be read as the program has read them."""
+    """The warnings of the files that a command names. Raises where they can't be read as the program has read them."""
     Effort.begin()
-    if command.name == "check":
+    if command.name in ("check", PRINTING):
         file = opened(command.tree, command.main)
-        return [] if file is None else warnings(file)
-    run = run_of(command) if command.name in ("tick", "live", "mock") else None
-    if run is None:
+        if file is None:
+            raise Unlike(command.tree)
+        return warnings(file) if command.name == "check" else rule_warnings(file, rules_of(command))
+    if command.name not in ("tick", "live", "mock"):
         return []
+    run = run_of(command)
+    if run is None:
+        raise Unlike(command.tree)
     if run.rules is not None and run.before is not None:
         return rule_warnings(run.before, run.rules) + in_order(row_warnings(run.file, run.world))
     return run_warnings(run.file, run.world)
+
+
+def rules_of(command: Command) -> Rules:
+    """The rules of the file that a command names. Raises where they can't be read as the program has read them."""
+    source = read(command.rules or "")
+    if source is None:
+        raise Unlike(command.rules)
+    try:
+        return read_rules(source)
+    except Finding:
+        raise Unlike(command.rules) from None
 
 
 def warnings(file: TreeFile) -> List[Report]:

@@ -1,7 +1,7 @@
 """The words of the program's command line: which command they are, or which of them is wrong."""
 
 from dataclasses import dataclass, field
-from typing import Dict, List, Optional, Tuple
+from typing import Dict, Iterator, List, Optional, Tuple
 
 from .near import meant
 from .values import number
@@ -9,7 +9,8 @@ from .values import number
 
 @dataclass(frozen=True)
 class Form:
-    """A command: what stands after its word, which options it takes and needs, and the ranges of its numbers."""
+    """A command: what stands after its word, which options it takes and needs, and the ranges of its numbers. An option that
+    `VALUES` does not have stands alone."""
 
     operands: Tuple[str, ...]
     options: Tuple[str, ...] = ()
@@ -18,24 +19,33 @@ class Form:
 
     def usage(self, name: str) -> str:
         """The command as a line."""
-        options = [f"{option} {VALUES[option]}" if option in self.needed else f"[{option} {VALUES[option]}]"
-                   for option in self.options]
+        options = [said(option) if option in self.needed else f"[{said(option)}]" for option in self.options]
         return " ".join(["bt", name, *self.operands, *options])
 
 
 VALUES = {"--main": "ID", "--ticks": "N", "--expand": "N", "--period": "MS"}
 
+
+def said(option: str) -> str:
+    """An option with what stands after it."""
+    return f"{option} {VALUES[option]}" if option in VALUES else option
+
+
 PLANNING = Form(("WORLD",), ("--expand", "--ticks", "--period"),
                 ranges={"--expand": (0, 120), "--ticks": (1, 10_000), "--period": (0, 1_000_000)})
+
+# the command of two words
+PRINTING = "mock --print"
 
 COMMANDS: Dict[str, Form] = {
     "tick": Form(("TREE", "WORLD"), ("--main",)),
     "live": Form(("TREE", "WORLD"), ("--ticks", "--main"), ("--ticks",), {"--ticks": (1, 100_000)}),
-    "check": Form(("TREE",), ("--main",)),
+    "check": Form(("TREE",), ("--main", "--strict")),
     "dead": Form(("TREE",), ("--main",)),
     "load": Form(("N",), ranges={"N": (1, 1_000)}),
     "plan": PLANNING,
     "mock": Form(("TREE", "WORLD", "RULES"), ("--main",)),
+    PRINTING: Form(("TREE", "RULES"), ("--main",)),
     "ground": Form(("WORLD",)),
     "gplan": Form(("WORLD",), PLANNING.options, ranges=PLANNING.ranges),
 }
@@ -43,23 +53,30 @@ COMMANDS: Dict[str, Form] = {
 
 @dataclass(frozen=True)
 class Command:
-    """A command with the files and the main tree that its words name."""
+    """A command with the files and the main tree that its words name, and whether a warning counts as an error."""
 
     name: str
     tree: Optional[str]
     world: Optional[str]
     rules: Optional[str]
     main: Optional[str]
+    is_strict: bool = False
+
+
+def parted(words: List[str]) -> Tuple[str, List[str]]:
+    """The name of a command, and the words after it."""
+    count = 2 if words[:2] == PRINTING.split() else 1
+    return " ".join(words[:count]), words[count:]
 
 
 def command_of(words: List[str]) -> Optional[Command]:
     """The command that the words are, if they are one."""
-    if not words or words[0] not in COMMANDS or wrong(words) is not None:
+    name, rest = parted(words)
+    if name not in COMMANDS or wrong(words) is not None:
         return None
-    operands = dict(zip(COMMANDS[words[0]].operands, words[1:]))
-    options = words[1 + len(operands):]
-    main = next((value for name, value in zip(options[::2], options[1::2]) if name == "--main"), None)
-    return Command(words[0], operands.get("TREE"), operands.get("WORLD"), operands.get("RULES"), main)
+    operands = dict(zip(COMMANDS[name].operands, rest))
+    options = dict(options_in(rest[len(operands):]))
+    return Command(name, operands.get("TREE"), operands.get("WORLD"), operands.get("RULES"), options.get("--main"), "--strict" in options)
 
 
 def wrong(words: List[str]) -> Optional[str]:
@@ -69,35 +86,46 @@ def wrong(words: List[str]) -> Optional[str]:
     for word in words:
         if not is_utf8(word):
             return f"'{word}' is not UTF-8"
-    form = COMMANDS.get(words[0])
+    name, rest = parted(words)
+    form = COMMANDS.get(name)
     if form is None:
-        asked = meant(words[0], COMMANDS)
-        return f"'{words[0]}' is no command" + "".join(": " + line for line in asked)
-    rest = words[1:]
+        asked = meant(name, [it for it in COMMANDS if it != PRINTING])
+        return f"'{name}' is no command" + "".join(": " + line for line in asked)
     if len(rest) < len(form.operands):
-        return f"{words[0]}: {form.operands[len(rest)]} is missing"
+        return f"{name}: {form.operands[len(rest)]} is missing"
     if form.operands == ("N",) and not in_range(form, "N", rest[0]):
-        return out_of_range(words[0], form, "N", rest[0])
-    return wrong_options(words[0], form, rest[len(form.operands):])
+        return out_of_range(name, form, "N", rest[0])
+    problem = wrong_options(name, form, rest[len(form.operands):])
+    early = [word for word in rest[:len(form.operands)] if word in form.options]
+    return f"{name}: {early[0]} comes after the files" if problem is not None and early else problem
+
+
+def options_in(rest: List[str]) -> Iterator[Tuple[str, Optional[str]]]:
+    """The options that words are, each with its value: none of one that stands alone, or where the words end before it. A word
+    that is no option stands alone."""
+    words = iter(rest)
+    for word in words:
+        yield word, next(words, None) if word in VALUES else None
 
 
 def wrong_options(name: str, form: Form, rest: List[str]) -> Optional[str]:
     """What is wrong with the words after the operands."""
     seen = []
-    for at in range(0, len(rest), 2):
-        word = rest[at]
+    for word, value in options_in(rest):
+        if f"{name} {word}" == PRINTING:
+            return f"{name}: {word} comes before the files"
         if word not in form.options:
             what = f"'{word}' is no option of it" if word.startswith("-") else f"'{word}' is one word too many"
             return f"{name}: {what}" + "".join(": " + line for line in meant(word, form.options))
         if word in seen:
             return f"{name}: {word} stands twice"
-        if at + 1 == len(rest):
+        if word in VALUES and value is None:
             return f"{name}: after {word} its {VALUES[word]} is missing"
-        if word in form.ranges and not in_range(form, word, rest[at + 1]):
-            return out_of_range(name, form, word, rest[at + 1])
+        if word in form.ranges and not in_range(form, word, value or ""):
+            return out_of_range(name, form, word, value or "")
         seen.append(word)
     missing = [option for option in form.needed if option not in seen]
-    return f"{name}: {missing[0]} {VALUES[missing[0]]} is missing" if missing else None
+    return f"{name}: {said(missing[0])} is missing" if missing else None
 
 
 def in_range(form: Form, what: str, word: str) -> bool:

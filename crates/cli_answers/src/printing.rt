@@ -7,4 +7,4 @@ mod nodes;
 mod printing;
 
 pub use grounding::print_ground;
-pub use printing::print_tree;
+pub use printing::{print_made, print_tree};

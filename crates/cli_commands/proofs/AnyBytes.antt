@@ -1,7 +1,7 @@
 -- What words were answered, of any bytes: where a read gave that a file is too long, of bytes that are.
 use Rattle.std.proofs.Common.{◌≡◌, ℕ, ◌≤◌, List, [], ◌∷◌, inl, inr, Option, Some, None, length, refl, sym, subst}
 use Rattle.spec_program.specs.declared.exit.Exit.{Exit}
-use Rattle.spec_program.specs.Words.{Command, Tick, Live, Load, Check, Dead, Plan, Mock, Ground, GroundPlan}
+use Rattle.spec_program.specs.Words.{Command, Tick, Live, Load, Check, Dead, Plan, Mock, MockPrint, Ground, GroundPlan}
 use Rattle.spec_program.specs.declared.course.Course.TheVariants as course
 use Rattle.spec_program.specs.declared.print.Print.TheVariants as print
 use Rattle.spec_tree.specs.Limits.{most_file_bytes}
@@ -16,13 +16,13 @@ use Rattle.spec_program.specs.Answers.{Answers, Gave, RanOut, Side}
 use Rattle.spec_program.specs.Output.{AreUncalled}
 use Rattle.spec_program.specs.Answered.{AnsweredAfter, AreTold, WordsAnswered}
 use Rattle.cli_commands.specs.Answering.{CommandAnswered, FilesAnswered}
-use Rattle.spec_program.specs.Files.{Contents, Named, tree_alone, tree_and_world, tree_world_rules, world_alone}
-use Rattle.spec_program.specs.Gives.{Beginning, BeginsNothing, Giving, Mocks, Prints, RunsOn}
+use Rattle.spec_program.specs.Files.{Contents, Named, tree_alone, tree_and_rules, tree_and_world, tree_world_rules, world_alone}
+use Rattle.spec_program.specs.Gives.{Beginning, BeginsNothing, Giving, Mocks, Prints, PrintsMade, RunsOn}
 use Rattle.spec_program.specs.Grounds.{GroundBegins, GroundPlans, Grounds}
 use Rattle.spec_program.specs.Jobs.{FilesBegin, FilesGive, files_of}
 use Rattle.spec_program.specs.Plans.{Begins, Plans}
 use Rattle.spec_program.specs.Reads.{AllRead, AreRead, IsLong, NamedFile, Reading, ReadsEnd, StoppedAt, WordsUnread, in_order}
-use Rattle.cli_commands.proofs.Files.{LongAlone, LongRules, LongTree, LongWorld, alone, holding, long_mock, long_mock_world, long_print, long_rules, long_run, long_world, no_bytes, uncalled_begin}
+use Rattle.cli_commands.proofs.Files.{LongAlone, LongLast, LongRules, LongTree, LongWorld, alone, holding, long_made, long_made_rules, long_mock, long_mock_world, long_print, long_rules, long_run, long_world, no_bytes, uncalled_begin}
 use Rattle.cli_commands.proofs.Grounds.{long_ground, long_ground_plan}
 use Rattle.cli_commands.proofs.Plans.{long_plan}
 use Rattle.cli_refusals.proofs.AboutLent.Moments.{at_any}
@@ -93,6 +93,18 @@ module _ {Shelf : Type 0} (read_gives : Reading Shelf) (holds : Option (List ℕ
     both_long tree world first second (inl x) = tree_long tree (Some world) None first x.0 x.1.0
     both_long tree world first second (inr x) = second_long tree world x.0 second (within holds tree x.2) x.3
 
+    -- of a tree file and a rules file
+    rules_after : (tree rules : List ℕ) (found : Shelf) → LongLast Gives → Within holds tree → IsRead ((file.Rules, rules) ∷ []) found → Answered (tree_and_rules tree rules) Gives Begins
+    rules_after tree rules found long t (inl x) =
+        let l = x.1.0 in
+        let files : Contents = record { tree = t.bytes; world = []; rules = l.bytes } in
+        long_answered (tree_and_rules tree rules) files file.Rules x.0 (record { tree = t.told; world = tt; rules = l.told }) (λ moments. long files moments a.drivers t.short l.long)
+    rules_after tree rules found long t (inr x) = absurd x.3
+
+    tree_rules_long : (tree rules : List ℕ) → LongTree Gives → LongLast Gives → IsRead (in_order (tree_and_rules tree rules)) old → Answered (tree_and_rules tree rules) Gives Begins
+    tree_rules_long tree rules first second (inl x) = tree_long tree None (Some rules) first x.0 x.1.0
+    tree_rules_long tree rules first second (inr x) = rules_after tree rules x.0 second (within holds tree x.2) x.3
+
     -- of the three files of a run of mocks
     last_long : (tree world rules : List ℕ) (found : Shelf) → LongRules Gives → Within holds tree → Within holds world → IsRead ((file.Rules, rules) ∷ []) found → Answered (tree_world_rules tree world rules) Gives Begins
     last_long tree world rules found long t w (inl x) = rules_long tree world rules long x.0 t w x.1.0
@@ -119,6 +131,7 @@ module _ {Shelf : Type 0} (read_gives : Reading Shelf) (holds : Option (List ℕ
   command_long (Dead t main) read = tree_alone_long (Prints print.Dead main) BeginsNothing t (long_print print.Dead main) read
   command_long (Plan w expand ticks period) read = alone_long (Plans (limits_of expand ticks period)) (Begins (limits_of expand ticks period)) w (long_plan (limits_of expand ticks period)) read
   command_long (Mock t w rules main) read = three_long (Mocks main) BeginsNothing t w rules (long_mock main) (long_mock_world main) (long_rules main) read
+  command_long (MockPrint t rules main) read = tree_rules_long (PrintsMade main) BeginsNothing t rules (long_made main) (long_made_rules main) read
   command_long (Ground w) read = alone_long Grounds BeginsNothing w long_ground read
   command_long (GroundPlan w expand ticks period) read =
       alone_long (GroundPlans (limits_of expand ticks period)) (GroundBegins (limits_of expand ticks period)) w (long_ground_plan (limits_of expand ticks period)) read

@@ -4,7 +4,7 @@ use Rattle.std.specs.Prelude.{IfSome, MatchOption}
 use Rattle.std.proofs.lemmas.Grind.{common_steps}
 use Rattle.spec_program.specs.declared.exit.Exit.{Exit}
 use Rattle.spec_program.specs.declared.exit.Exit.TheVariants as exit
-use Rattle.spec_program.specs.Words.{Command, Tick, Live, Load, Check, Dead, Plan, Mock, Ground, GroundPlan}
+use Rattle.spec_program.specs.Words.{Command, Tick, Live, Load, Check, Dead, Plan, Mock, MockPrint, Ground, GroundPlan}
 use Rattle.spec_output.specs.LoadTexts.{tree_text, world_text}
 use Rattle.spec_tree.specs.declared.term.Tree.{Tree}
 use Rattle.spec_world.specs.declared.world.World.{World}
@@ -32,11 +32,11 @@ use Rattle.cli_refusals.specs.Ends.{Ends, EndsAt, IsUntouched}
 use Rattle.spec_program.specs.Files.{Contents}
 use Rattle.spec_program.specs.Jobs.{FilesBegin, FilesGive, files_of}
 use Rattle.spec_program.specs.Output.{AreUncalled, Begun, Ending, Output}
-use Rattle.spec_program.specs.Gives.{CourseGives, Giving, MockGives, Mocks, PrintGives, Prints, ReadGives, RunGives, RunsOn, ScriptMocks, Standing, is_too_long, itself, mocked, standing_output}
+use Rattle.spec_program.specs.Gives.{CourseGives, Giving, MadeGives, MockGives, Mocks, PrintGives, Prints, PrintsMade, ReadGives, RunGives, RunsOn, ScriptMocks, Standing, is_too_long, itself, made_output, mocked, mocked_apart, standing_output}
 use Rattle.cli_commands.specs.Standing.{StandingGives}
 use Rattle.spec_program.specs.Courses.{Given, given}
 use Rattle.cli_answers.specs.Courses.Joined.{JoinGives}
-use Rattle.spec_program.specs.Printed.{print_output}
+use Rattle.spec_program.specs.Printed.{print_made, print_output}
 use Rattle.spec_outside.specs.declared.shelf_fault.ShelfFault.{ShelfFault}
 use Rattle.spec_outside.specs.declared.shelf_fault.ShelfFault.TheVariants as shelf
 use Rattle.spec_program.specs.Reads.{AllRead, AreRead, NamedFile, Reading, ReadsEnd, StoppedAt, if_named, in_order}
@@ -197,6 +197,17 @@ long_rules main files moments drivers st sw long =
 pub long_print : (print : Print) (main : Option (List ℕ)) → LongTree (Prints print main)
 long_print print main files moments drivers long = match_true (is_too_long files.tree) _ _ (long_is files.tree long) refl
 
+-- .. of a tree file and a rules file
+abbrev pub LongLast : Giving → Type 0
+LongLast Gives = (files : Contents) (moments : Moments) (drivers : List DriverState) → length files.tree ≤ most_file_bytes → most_file_bytes < length files.rules → Gives files moments drivers (too_long file.Rules)
+
+pub long_made : (main : Option (List ℕ)) → LongTree (PrintsMade main)
+long_made main files moments drivers long = match_true (is_too_long files.tree) _ _ (long_is files.tree long) refl
+
+pub long_made_rules : (main : Option (List ℕ)) → LongLast (PrintsMade main)
+long_made_rules main files moments drivers st long =
+    match_false (is_too_long files.tree) _ _ (short_is files.tree st) (match_true (is_too_long files.rules) _ _ (long_is files.rules long) refl)
+
 -- a file that is told is as long as its bytes
 told_short : (holds : Option (List ℕ → List ℕ)) (name bytes : List ℕ) → Told holds name (λ file. bytes ≡ file) → length bytes ≤ most_file_bytes → Told holds name (λ file. length file ≤ most_file_bytes)
 told_short None name bytes told short = tt
@@ -287,6 +298,33 @@ module _ (print : Print) (main : Option (List ℕ)) (bytes : List ℕ) (short : 
       at_any a.clock (λ moments. Ends (PrintGives print main bytes) AreUncalled (Ok exit) a (side written faults a.clock a.drivers))
       (λ moments. inl (print_output print (Ok t), print_gives print main bytes (Ok t) short reads, printed a.clock a.drivers a.drivers (λ place. refl)))
 
+-- the bytes of a tree file and of a rules file that are not too long, of which is printed what the rules make of the tree
+module _ (main : Option (List ℕ)) (tree rules : List ℕ) (st : length tree ≤ most_file_bytes) (sr : length rules ≤ most_file_bytes) where
+  abbrev pub Made : Ending
+  Made moments drivers output = MadeGives main tree rules output
+
+  made_gives : (r : Result Tree TreeFault) → TreeReads main tree r → MadeGives main tree rules (made_output rules r)
+  made_gives r reads = match_false (is_too_long tree) _ _ (short_is tree st) (match_false (is_too_long rules) _ _ (short_is rules sr) (r, reads, refl))
+
+  -- .. of a tree that was read, by what they make of it
+  made_as : (t : Tree) (made : Result Tree MockFault) → ReadsAs (Ok t) main tree → mocked_apart rules t ≡ made → MadeGives main tree rules (print_made made)
+  made_as t made reads is = subst (λ (m : Result Tree MockFault). MadeGives main tree rules (print_made m)) is (made_gives (Ok t) reads)
+
+  pub made_tree_stopped : (stopped : Stop TreeFault) (a : Side) → ReadsAs (Err stopped) main tree → EndsAt Made AreUncalled (Err (stopped_as refusal.Tree stopped)) a a
+  made_tree_stopped (stop.Fault f) a reads = refused_ends Made AreUncalled (refusal.Tree f) a (λ moments. made_gives (Err f) reads)
+  made_tree_stopped stop.NoMemory a reads = refused_ends Made AreUncalled refusal.NoMemory a (λ moments. tt)
+
+  pub made_rules_stopped : (t : Tree) (stopped : Stop MockFault) (a : Side) → ReadsAs (Ok t) main tree → (let r : Result Tree (Stop MockFault) = Err stopped in Makes r (mocked_apart rules t))
+      → EndsAt Made AreUncalled (Err (stopped_as refusal.Rules stopped)) a a
+  made_rules_stopped t (stop.Fault f) a reads none = refused_ends Made AreUncalled (refusal.Rules f) a (λ moments. made_as t (Err f) reads none)
+  made_rules_stopped t stop.NoMemory a reads none = refused_ends Made AreUncalled refusal.NoMemory a (λ moments. tt)
+
+  pub made_printed : (t made : Tree) (exit : Exit) (written : Option (List ℕ)) (faults : ℕ) (a : Side) → ReadsAs (Ok t) main tree → mocked_apart rules t ≡ Ok made → Printed (print_made (Ok made)) exit a.written a.faults written faults
+      → EndsAt Made AreUncalled (Ok exit) a (side written faults a.clock a.drivers)
+  made_printed t made exit written faults a reads is printed =
+      at_any a.clock (λ moments. Ends (MadeGives main tree rules) AreUncalled (Ok exit) a (side written faults a.clock a.drivers))
+      (λ moments. inl (print_made (Ok made), made_as t (Ok made) reads is, printed a.clock a.drivers a.drivers (λ place. refl)))
+
 -- memory ran out when the files of a load were made
 pub load_stopped : (leaves : ℕ) (a : Side) → EndsAt (CourseGives (course.Load leaves) None (tree_text leaves) (world_text leaves)) AreUncalled (Err refusal.NoMemory) a a
 load_stopped leaves a = refused_ends (CourseGives (course.Load leaves) None (tree_text leaves) (world_text leaves)) AreUncalled refusal.NoMemory a (λ moments. tt)
@@ -310,6 +348,7 @@ uncalled_begin (Check t main) files old new same = same
 uncalled_begin (Dead t main) files old new same = same
 uncalled_begin (Plan w expand ticks period) files old new same = inl same
 uncalled_begin (Mock t w rules main) files old new same = same
+uncalled_begin (MockPrint t rules main) files old new same = same
 uncalled_begin (Ground w) files old new same = same
 uncalled_begin (GroundPlan w expand ticks period) files old new same = inl same
 

@@ -1,4 +1,5 @@
 pub mod AnyBytes
 pub mod Files
 pub mod Grounds
+pub mod Made
 pub mod Plans

@@ -17,17 +17,17 @@ ghost use Rattle.cli_commands.specs.Named.{contents_of};
 ghost use Rattle.spec_program.specs.Grounds.{GroundGives, GroundPlanBegins, GroundPlanGives};
 ghost use Rattle.spec_program.specs.Jobs.{FilesBegin, FilesGive};
 ghost use Rattle.spec_program.specs.Output.{AreUncalled};
-ghost use Rattle.spec_program.specs.Gives.{CourseGives, PrintGives, ScriptMocks, mocked};
+ghost use Rattle.spec_program.specs.Gives.{CourseGives, MadeGives, PrintGives, ScriptMocks, mocked};
 ghost use Rattle.cli_commands.specs.Standing.{StandingGives};
 ghost use Rattle.spec_program.specs.Plans.{PlanBegins, PlanGives};
 ghost use Rattle.plan_search.specs.Reached.{AreInRange};
 ghost use Rattle.text_trace.specs.Traces.{AreKept};
 
-use crate::mocking::mock_tree;
+use crate::mocking::{mock_tree, mock_tree_apart};
 use crate::reading::{FilesRead, read_files};
 use base_outside::{Clock, Shelf, Sink};
 use base_texts::Name;
-use cli_answers::{join_and_run, plan_and_print, print_ground, print_tree};
+use cli_answers::{join_and_run, plan_and_print, print_ground, print_made, print_tree};
 use cli_refusals::{Outside, Refusal, write_refusal};
 use cli_words::{Command, read_command};
 use run_driver::Drivers;
@@ -250,6 +250,38 @@ fn mock_files<S: Shelf, K: Sink, C: Clock, D: Drivers>(
     }
 }
 
+/// Prints the tree that the rules of these bytes of a rules file make of the tree of these bytes of a tree file.
+fn print_mocked<S: Shelf, K: Sink, C: Clock, D: Drivers>(
+    alloc: Global,
+    tree: &[u8],
+    rules: &[u8],
+    main: Option<&Name>,
+    outside: &mut Outside<S, K, C, D>,
+) -> Result<Exit, Refusal>
+    requires tree { length tree.now ≤ most_file_bytes }
+    requires rules { length rules.now ≤ most_file_bytes }
+    requires quiet { NothingHeld (D.states outside.old.drivers.now) }
+    ensures ends { EndsAt (λ moments drivers. MadeGives (option_copied main.entry) tree.now rules.now) AreUncalled result
+        (seen K.written K.faults C.moments D.states outside.old)
+        (seen K.written K.faults C.moments D.states outside.new) }
+    ensures unread { outside.new.shelf.now ≡ outside.old.shelf.now }
+    ensures stays { Stays S.faults K.faults D.states outside.old outside.new }
+{
+    let tree = parse_tree(alloc, tree, main)?;
+    match mock_tree_apart(alloc, &tree, rules) {
+        Ok(made) => {
+            let exit = print_made(alloc, &made, outside.out);
+            drop(made);
+            drop(tree);
+            Ok(exit)
+        }
+        Err(stopped) => {
+            drop(tree);
+            Err(Refusal::from(stopped))
+        }
+    }
+}
+
 /// The limits of a plan, by the numbers of its words.
 fn limits_of(expand: u32, ticks: u32, period: u32) -> Limits
     ensures { result ≡ record { expand = expand; ticks = ticks; period = period } }
@@ -300,6 +332,7 @@ fn answer<S: Shelf, K: Sink, C: Clock, D: Drivers>(
             ..
         } => plan_file(alloc, world, &limits_of(expand, ticks, period), outside),
         Command::Mock { main, .. } => mock_files(alloc, tree, world, rules, main, outside),
+        Command::MockPrint { main, .. } => print_mocked(alloc, tree, rules, main, outside),
         Command::Ground { .. } => ground_file(alloc, world, outside),
         Command::GroundPlan {
             expand,

@@ -46,6 +46,7 @@ fn names_of(command: Command) -> (Option<&Name>, Option<&Name>, Option<&Name>)
             rules,
             ..
         } => (Some(tree), Some(world), Some(rules)),
+        Command::MockPrint { tree, rules, .. } => (Some(tree), None, Some(rules)),
     }
 }
 

@@ -4,7 +4,7 @@ use Rattle.std.specs.Prelude.{option_map}
 use Rattle.spec_run.specs.declared.join_fault.JoinFault.{JoinFault}
 use Rattle.spec_program.specs.declared.exit.Exit.{Exit}
 use Rattle.spec_program.specs.declared.exit.Exit.TheVariants as exit
-use Rattle.spec_program.specs.Words.{Command, Tick, Live, Load, Check, Dead, Plan, Mock, Ground, GroundPlan}
+use Rattle.spec_program.specs.Words.{Command, Tick, Live, Load, Check, Dead, Plan, Mock, MockPrint, Ground, GroundPlan}
 use Rattle.spec_output.specs.LoadTexts.{tree_text, world_text}
 use Rattle.run_loop.proofs.Preparing.{run_same}
 use Rattle.spec_run.specs.Served.{roster_after_run}
@@ -33,12 +33,12 @@ use Rattle.spec_world_file.specs.GroundFile.{Grounded, MakesWorld, reads_ground,
 use Rattle.spec_tree_file.specs.declared.mock_fault.MockFault.{MockFault}
 use Rattle.spec_program.specs.Files.{Contents}
 use Rattle.spec_program.specs.Grounds.{GroundBegun, GroundGives, GroundPlanGives, GroundedPlans, SaidPlans}
-use Rattle.spec_program.specs.Printed.{ground_output, print_output}
+use Rattle.spec_program.specs.Printed.{ground_output, print_made, print_output}
 use Rattle.spec_program.specs.Jobs.{FilesBegin, FilesGive}
 use Rattle.spec_program.specs.Output.{AreUncalled, Asked, Never, Output, Times, UpToFault, line_of}
 use Rattle.spec_program.specs.Courses.{Given, given, joined_output, run_output}
 use Rattle.spec_run.specs.Joins.{lack_of}
-use Rattle.spec_program.specs.Gives.{MockGives, PrintGives, RunGives, Standing, TreeGives, is_too_long, itself, mocked, standing_output, world_output}
+use Rattle.spec_program.specs.Gives.{MadeGives, MockGives, PrintGives, RunGives, Standing, TreeGives, is_too_long, itself, made_output, mocked, mocked_apart, standing_output, world_output}
 use Rattle.spec_program.specs.Refused.{ground_refused, too_long, tree_refused, unread, world_refused}
 use Rattle.spec_program.specs.Plans.{FileBegun, PlanGives, ReadPlans}
 use Rattle.spec_program.specs.PlanOutputs.{IsPlanned, PlannedOr, first_unserved, refusal_for}
@@ -95,6 +95,19 @@ module _ (Q : Output → Type 0) (line : (bytes : List ℕ) (exit : Exit) → Q 
 
   of_print : (print : Print) (main : Option (List ℕ)) (tree : List ℕ) (o : Output) → PrintGives print main tree o → Q o
   of_print print main tree o p = by_length (is_too_long tree) o (too_long file.Tree) _ (line _ exit.Tree) p (λ p1. same_output o (print_output print p1.0) p1.2 (printed print p1.0))
+
+  made : (r : Result Tree MockFault) → Q (print_made r)
+  made (Ok tree) = line _ exit.Done
+  made (Err fault) = line _ exit.Rules
+
+  by_rules : (rules : List ℕ) (read : Result Tree TreeFault) → Q (made_output rules read)
+  by_rules rules (Ok tree) = made (mocked_apart rules tree)
+  by_rules rules (Err fault) = line _ exit.Tree
+
+  of_made : (main : Option (List ℕ)) (tree rules : List ℕ) (o : Output) → MadeGives main tree rules o → Q o
+  of_made main tree rules o p =
+      by_length (is_too_long tree) o (too_long file.Tree) _ (line _ exit.Tree) p
+      (λ p1. by_length (is_too_long rules) o (too_long file.Rules) _ (line _ exit.Rules) p1 (λ p2. same_output o (made_output rules p2.0) p2.2 (by_rules rules p2.0)))
 
   by_refusal : (goals : List ℕ) (lack : Option JoinFault) (world : World) (limits : Limits) (drivers : List DriverState) (o : Output) → (IsPlanned world limits drivers o → Q o) → PlannedOr (refusal_for goals lack) world limits drivers o → Q o
   by_refusal [] lack world limits drivers o run p = same_output o _ p (line _ exit.World)
@@ -219,6 +232,7 @@ module _ (cuts : CutLaw) (worlds : WorldLaw) where
       of_plan (Within old new) (λ bytes exit. same) (limits_of expand ticks period) files.world old o
       (λ described planned. within_plan described (limits_of expand ticks period) old new o (not_planned old new same described (limits_of expand ticks period)) planned) p
   uncalled_is_within (Mock t w rules main) files moments old new o p same = within_mock old new same main files.tree files.world files.rules moments o p
+  uncalled_is_within (MockPrint t rules main) files moments old new o p same = of_made (Within old new) (λ bytes exit. same) main files.tree files.rules o p
   uncalled_is_within (Ground w) files moments old new o p same = of_ground (Within old new) (λ bytes exit. same) files.world o p
   uncalled_is_within (GroundPlan w expand ticks period) files moments old new o p same =
       of_ground_plan (Within old new) (λ bytes exit. same) (limits_of expand ticks period) files.world old o
@@ -234,6 +248,7 @@ module _ (cuts : CutLaw) (worlds : WorldLaw) where
   begun_is_within (Plan w expand ticks period) files moments old new o p (inl same) = uncalled_is_within (Plan w expand ticks period) files moments old new o p same
   begun_is_within (Plan w expand ticks period) files moments old new o p (inr b) = within_file (limits_of expand ticks period) files.world old new o p b
   begun_is_within (Mock t w rules main) files moments old new o p same = uncalled_is_within (Mock t w rules main) files moments old new o p same
+  begun_is_within (MockPrint t rules main) files moments old new o p same = uncalled_is_within (MockPrint t rules main) files moments old new o p same
   begun_is_within (Ground w) files moments old new o p same = uncalled_is_within (Ground w) files moments old new o p same
   begun_is_within (GroundPlan w expand ticks period) files moments old new o p (inl same) = uncalled_is_within (GroundPlan w expand ticks period) files moments old new o p same
   begun_is_within (GroundPlan w expand ticks period) files moments old new o p (inr b) = within_ground (limits_of expand ticks period) files.world old new o p b
@@ -306,6 +321,7 @@ files_unasked (Dead t main) files moments drivers o other p = of_print IsUnasked
 files_unasked (Plan w expand ticks period) files moments drivers o other p =
     of_plan IsUnasked (λ bytes exit. refl) (limits_of expand ticks period) files.world drivers o (λ described planned. ap (λ (z : Output). z.asked) planned.is) p
 files_unasked (Mock t w rules main) files moments drivers o other p = of_mock IsUnasked (λ bytes exit. refl) main files.tree files.world files.rules (given course.Script moments drivers) o (λ t w. refl) p
+files_unasked (MockPrint t rules main) files moments drivers o other p = of_made IsUnasked (λ bytes exit. refl) main files.tree files.rules o p
 files_unasked (Ground w) files moments drivers o other p = of_ground IsUnasked (λ bytes exit. refl) files.world o p
 files_unasked (GroundPlan w expand ticks period) files moments drivers o other p =
     of_ground_plan IsUnasked (λ bytes exit. refl) (limits_of expand ticks period) files.world drivers o (λ described planned. ap (λ (z : Output). z.asked) planned.is) p

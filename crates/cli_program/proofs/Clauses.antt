@@ -40,15 +40,15 @@ use Rattle.spec_program.specs.Files.{Contents, Named, world_alone}
 use Rattle.spec_world_file.specs.declared.ground_fault.GroundFault.{GroundFault}
 use Rattle.spec_world_file.specs.GroundFile.{Grounded, MakesWorld, reads_ground, world_from}
 use Rattle.spec_program.specs.Grounds.{GroundBegins, GroundGives, GroundPlanGives, GroundPlans, GroundedPlans, SaidPlans}
-use Rattle.spec_program.specs.Printed.{ground_output, print_output}
+use Rattle.spec_program.specs.Printed.{ground_output, print_made, print_output}
 use Rattle.spec_program.specs.Jobs.{CommandGives, FilesBegin, FilesGive, files_of, held, held_by}
 use Rattle.spec_program.specs.Output.{AreUncalled, Output}
-use Rattle.spec_program.specs.Gives.{Beginning, Giving, MockGives, OrTooLong, PrintGives, ReadGives, RunGives, Standing, TreeGives, WorldGives, is_too_long, itself, mocked, standing_output, world_output}
+use Rattle.spec_program.specs.Gives.{Beginning, Giving, MadeGives, MockGives, OrTooLong, PrintGives, ReadGives, RunGives, Standing, TreeGives, WorldGives, is_too_long, itself, made_output, mocked, mocked_apart, standing_output, world_output}
 use Rattle.spec_program.specs.Courses.{Given, given, joined_output, run_exit}
 use Rattle.spec_run.specs.Joins.{lack_of}
 use Rattle.spec_program.specs.Refused.{ground_refused, join_refused, no_goal, too_long, tree_refused, unread, words_refused, world_refused}
 use Rattle.spec_program.specs.TreeFiles.{TreeReads, built, element_read, with_models}
-use Rattle.spec_program.specs.Words.{Command, Tick, Live, Load, Check, Dead, Plan, Mock, Ground, GroundPlan}
+use Rattle.spec_program.specs.Words.{Command, Tick, Live, Load, Check, Dead, Plan, Mock, MockPrint, Ground, GroundPlan}
 use Rattle.spec_program.specs.declared.file.File.{File}
 use Rattle.spec_program.specs.declared.file.File.TheVariants as file
 use Rattle.spec_run.specs.declared.join_fault.JoinFault.{JoinFault}
@@ -113,6 +113,11 @@ one_print : OneReading → (print : Print) (main : Option (List ℕ)) (tree : Li
 one_print one print main tree x y p q =
     one_if (is_too_long tree) x y (too_long file.Tree) _ _ p q (λ p1 q1. p1.2 ∙ ap (print_output print) (one_tree one main tree p1.0 q1.0 p1.1 q1.1) ∙ sym q1.2)
 
+one_print_made : OneReading → (main : Option (List ℕ)) (tree rules : List ℕ) (x y : Output) → MadeGives main tree rules x → MadeGives main tree rules y → x ≡ y
+one_print_made one main tree rules x y p q =
+    one_if (is_too_long tree) x y (too_long file.Tree) _ _ p q (λ p1 q1. one_if (is_too_long rules) x y (too_long file.Rules) _ _ p1 q1
+    (λ p2 q2. p2.2 ∙ ap (made_output rules) (one_tree one main tree p2.0 q2.0 p2.1 q2.1) ∙ sym q2.2))
+
 one_planned : OneReading → (world : World) (limits : Limits) (drivers : List DriverState) (x y : Output) → IsPlanned world limits drivers x → IsPlanned world limits drivers y → x ≡ y
 one_planned one world limits drivers x y p q =
     let same = one.plan world limits drivers p.valid p.after q.after p.planned q.planned p.run q.run in
@@ -165,6 +170,7 @@ one_files one (Plan w expand ticks period) files moments drivers x y p q = one_p
 one_files one (Ground w) files moments drivers x y p q = one_ground files.world x y p q
 one_files one (GroundPlan w expand ticks period) files moments drivers x y p q = one_ground_plan one (limits_of expand ticks period) files.world drivers x y p q
 one_files one (Mock t w rules main) files moments drivers x y p q = one_mock one main files.tree files.world files.rules (given course.Script moments drivers) x y p q
+one_files one (MockPrint t rules main) files moments drivers x y p q = one_print_made one main files.tree files.rules x y p q
 
 -- a given exit is that of the output, which was given whole
 whole_given : (o : Output) (result : Exit) (a b : Side) → IsGiven result → Gave o result a b → IsWhole o result a b
@@ -224,6 +230,7 @@ of_own (Check t main) files moments drivers o p = p
 of_own (Dead t main) files moments drivers o p = p
 of_own (Plan w expand ticks period) files moments drivers o p = p
 of_own (Mock t w rules main) files moments drivers o p = p
+of_own (MockPrint t rules main) files moments drivers o p = p
 of_own (Ground w) files moments drivers o p = p
 of_own (GroundPlan w expand ticks period) files moments drivers o p = p
 
@@ -235,6 +242,7 @@ from_own (Check t main) files moments drivers o p = p
 from_own (Dead t main) files moments drivers o p = p
 from_own (Plan w expand ticks period) files moments drivers o p = p
 from_own (Mock t w rules main) files moments drivers o p = p
+from_own (MockPrint t rules main) files moments drivers o p = p
 from_own (Ground w) files moments drivers o p = p
 from_own (GroundPlan w expand ticks period) files moments drivers o p = p
 
@@ -278,6 +286,7 @@ needed (Check t main) files result a b clock x = x.holds
 needed (Dead t main) files result a b clock x = x.holds
 needed (Plan w expand ticks period) files result a b clock x = x.holds
 needed (Mock t w rules main) files result a b clock x = x.holds
+needed (MockPrint t rules main) files result a b clock x = x.holds
 needed (Ground w) files result a b clock x = x.holds
 needed (GroundPlan w expand ticks period) files result a b clock x = x.holds
 
@@ -398,6 +407,19 @@ exit_of_print : (print : Print) (main : Option (List ℕ)) (tree : List ℕ) (o 
 exit_of_print print main tree o p =
     exit_of_long (is_too_long tree) o (too_long file.Tree) _ tt p (λ p1. same_exit o (print_output print p1.0) p1.2 (exit_of_printed print p1.0))
 
+exit_of_made : (r : Result Tree MockFault) → IsOfFiles (print_made r).exit
+exit_of_made (Ok tree) = tt
+exit_of_made (Err f) = tt
+
+exit_of_rules : (rules : List ℕ) (r : Result Tree TreeFault) → IsOfFiles (made_output rules r).exit
+exit_of_rules rules (Ok tree) = exit_of_made (mocked_apart rules tree)
+exit_of_rules rules (Err f) = tt
+
+exit_of_print_made : (main : Option (List ℕ)) (tree rules : List ℕ) (o : Output) → MadeGives main tree rules o → IsOfFiles o.exit
+exit_of_print_made main tree rules o p =
+    exit_of_long (is_too_long tree) o (too_long file.Tree) _ tt p
+    (λ p1. exit_of_long (is_too_long rules) o (too_long file.Rules) _ tt p1 (λ p2. same_exit o (made_output rules p2.0) p2.2 (exit_of_rules rules p2.0)))
+
 exit_of_end_of_plan : (end : End) → IsOfFiles (plan_exit end)
 exit_of_end_of_plan (Reached tree tick) = tt
 exit_of_end_of_plan (NoTemplate failed) = tt
@@ -446,6 +468,7 @@ exit_of_files (Plan w expand ticks period) files moments drivers o p = exit_of_p
 exit_of_files (Ground w) files moments drivers o p = exit_of_ground files.world o p
 exit_of_files (GroundPlan w expand ticks period) files moments drivers o p = exit_of_ground_plan (limits_of expand ticks period) files.world drivers o p
 exit_of_files (Mock t w rules main) files moments drivers o p = exit_of_mock main files.tree files.world files.rules (given course.Script moments drivers) o p
+exit_of_files (MockPrint t rules main) files moments drivers o p = exit_of_print_made main files.tree files.rules o p
 
 -- no tree was run where a file was not read
 unread_left : (f : File) (a b : Side) → DriversLeft (unread f).drivers a.drivers b.drivers → AreUncalled a.drivers b.drivers
@@ -667,6 +690,7 @@ module _ (holds : Option (List ℕ → List ℕ)) (result : Exit) (shelf : Type 
   planned_done laws (Some (Check t main)) answered = tt
   planned_done laws (Some (Dead t main)) answered = tt
   planned_done laws (Some (Mock t w rules main)) answered = tt
+  planned_done laws (Some (MockPrint t rules main)) answered = tt
   planned_done laws (Some (Ground w)) answered = tt
   planned_done laws (Some (GroundPlan w expand ticks period)) answered = ground_reached_of laws (limits_of expand ticks period) holds w a b shelf IsUnread answered
   planned_done laws (Some (Plan w expand ticks period)) answered = reached_of laws (limits_of expand ticks period) holds w a b shelf IsUnread answered

@@ -2,7 +2,7 @@ ghost use Rattle.std.specs.Prelude.{◌≡◌, ◌≤◌, ◌↔◌, IfOk, IfSom
 ghost use Rattle.std.specs.IoError.{error_kind};
 ghost use Rattle.std.specs.Option.{option_copied};
 ghost use Rattle.cli_words.specs.Commands.{AreLimits, IsInRange, command_seen};
-ghost use Rattle.spec_program.specs.Words.{are_options, as_count, check_of, command_of, dead_of, ground_of, ground_plan_of, in_range, is_option, is_unset, limited_words, live_of, load_of, mock_of, number_or, plan_of, rounds_in, tick_of, tree_words, value_of};
+ghost use Rattle.spec_program.specs.Words.{are_options, as_count, check_of, command_of, dead_of, ground_of, ground_plan_of, in_range, is_option, is_unset, limited_words, live_of, load_of, main_in, mock_of, mock_print_of, mock_run_of, number_or, plan_of, rounds_in, tick_of, value_of, without_strict};
 ghost use Rattle.spec_tree.specs.Limits.{most_leaves, most_rounds};
 ghost use Rattle.spec_tree.specs.Numbers.{int_in};
 
@@ -37,7 +37,7 @@ pub enum Command<'a> {
         /// From 1 to `MOST_LEAVES`.
         leaves: u32,
     },
-    /// `check TREE [--main ID]`
+    /// `check TREE [--main ID] [--strict]`, of which `--strict` changes nothing.
     Check {
         tree: &'a Name,
         main: Option<&'a Name>,
@@ -61,6 +61,12 @@ pub enum Command<'a> {
     Mock {
         tree: &'a Name,
         world: &'a Name,
+        rules: &'a Name,
+        main: Option<&'a Name>,
+    },
+    /// `mock --print TREE RULES [--main ID]`
+    MockPrint {
+        tree: &'a Name,
         rules: &'a Name,
         main: Option<&'a Name>,
     },
@@ -227,18 +233,26 @@ fn read_load<'a>(words: &'a [Name]) -> Option<Command<'a>>
     }
 }
 
-/// The tree file that words name, with the ID of the main tree where they name one.
-fn tree_words<'a>(words: &'a [Name]) -> Option<(&'a Name, Option<&'a Name>)>
-    ensures { MatchOption result (tree_words words.now ≡ None)
-        (λ named. tree_words words.now ≡ Some (named.0.now, option_copied named.1)) }
+/// The ID of the main tree, where the words are options that name one or none.
+fn main_in<'a>(options: &'a [Name]) -> Option<Option<&'a Name>>
+    ensures { MatchOption result (main_in options.now ≡ None) (λ main. main_in options.now ≡ Some (option_copied main)) }
 {
-    let [tree, options @ ..] = words else {
-        return None;
-    };
     if !are_options(options, Options::Main) {
         return None;
     }
-    Some((tree, main_of(options)))
+    Some(main_of(options))
+}
+
+/// Options without `--strict`, which stands before or after the other one.
+fn without_strict(options: &[Name]) -> &[Name]
+    ensures { result.now ≡ without_strict options.now }
+{
+    match options {
+        [flag] if flag.list() == b"--strict".as_slice() => &options[1..],
+        [flag, _, _] if flag.list() == b"--strict".as_slice() => &options[1..],
+        [_, _, flag] if flag.list() == b"--strict".as_slice() => &options[..2],
+        _ => options,
+    }
 }
 
 /// The command `check` with these words after it.
@@ -246,7 +260,10 @@ fn read_check<'a>(words: &'a [Name]) -> Option<Command<'a>>
     ensures command { MatchOption result (check_of words.now ≡ None) (λ c. check_of words.now ≡ Some (command_seen c)) }
     ensures range { IfSome result (λ c. IsInRange (command_seen c)) }
 {
-    let (tree, main) = tree_words(words)?;
+    let [tree, options @ ..] = words else {
+        return None;
+    };
+    let main = main_in(without_strict(options))?;
     Some(Command::Check { tree, main })
 }
 
@@ -255,7 +272,10 @@ fn read_dead<'a>(words: &'a [Name]) -> Option<Command<'a>>
     ensures command { MatchOption result (dead_of words.now ≡ None) (λ c. dead_of words.now ≡ Some (command_seen c)) }
     ensures range { IfSome result (λ c. IsInRange (command_seen c)) }
 {
-    let (tree, main) = tree_words(words)?;
+    let [tree, options @ ..] = words else {
+        return None;
+    };
+    let main = main_in(options)?;
     Some(Command::Dead { tree, main })
 }
 
@@ -341,23 +361,44 @@ fn read_ground<'a>(words: &'a [Name]) -> Option<Command<'a>>
     Some(Command::Ground { world })
 }
 
-/// The command `mock` with these words after it.
-fn read_mock<'a>(words: &'a [Name]) -> Option<Command<'a>>
-    ensures command { MatchOption result (mock_of words.now ≡ None) (λ c. mock_of words.now ≡ Some (command_seen c)) }
+/// The command `mock` with these words after it, of which the first is no `--print`.
+fn read_mock_run<'a>(words: &'a [Name]) -> Option<Command<'a>>
+    ensures command { MatchOption result (mock_run_of words.now ≡ None) (λ c. mock_run_of words.now ≡ Some (command_seen c)) }
     ensures range { IfSome result (λ c. IsInRange (command_seen c)) }
 {
     let [tree, world, rules, options @ ..] = words else {
         return None;
     };
-    if !are_options(options, Options::Main) {
-        return None;
-    }
+    let main = main_in(options)?;
     Some(Command::Mock {
         tree,
         world,
         rules,
-        main: main_of(options),
+        main,
     })
+}
+
+/// The command `mock --print` with these words after it.
+fn read_mock_print<'a>(words: &'a [Name]) -> Option<Command<'a>>
+    ensures command { MatchOption result (mock_print_of words.now ≡ None) (λ c. mock_print_of words.now ≡ Some (command_seen c)) }
+    ensures range { IfSome result (λ c. IsInRange (command_seen c)) }
+{
+    let [tree, rules, options @ ..] = words else {
+        return None;
+    };
+    let main = main_in(options)?;
+    Some(Command::MockPrint { tree, rules, main })
+}
+
+/// The command `mock` with these words after it.
+fn read_mock<'a>(words: &'a [Name]) -> Option<Command<'a>>
+    ensures command { MatchOption result (mock_of words.now ≡ None) (λ c. mock_of words.now ≡ Some (command_seen c)) }
+    ensures range { IfSome result (λ c. IsInRange (command_seen c)) }
+{
+    match words {
+        [word, rest @ ..] if word.list() == b"--print".as_slice() => read_mock_print(rest),
+        _ => read_mock_run(words),
+    }
 }
 
 /// The command that the words are.

@@ -19,6 +19,9 @@ world_alone world = record { tree = None; world = Some world; rules = None }
 abbrev pub tree_and_world : List ℕ → List ℕ → Named
 tree_and_world tree world = record { tree = Some tree; world = Some world; rules = None }
 
+abbrev pub tree_and_rules : List ℕ → List ℕ → Named
+tree_and_rules tree rules = record { tree = Some tree; world = None; rules = Some rules }
+
 abbrev pub tree_world_rules : List ℕ → List ℕ → List ℕ → Named
 tree_world_rules tree world rules = record { tree = Some tree; world = Some world; rules = Some rules }
 

@@ -16,7 +16,8 @@ use Rattle.spec_tree.specs.Limits.{most_file_bytes}
 use Rattle.spec_world_file.specs.WorldFile.{ReadsWorld}
 use Rattle.spec_program.specs.Output.{AreUncalled, Begun, Output, Ending}
 use Rattle.spec_program.specs.Refused.{too_long, world_refused, tree_refused, rules_refused}
-use Rattle.spec_program.specs.Printed.{print_output}
+use Rattle.spec_program.specs.Printed.{print_made, print_output}
+use Rattle.spec_program.specs.ToldApart.{told_apart}
 use Rattle.spec_program.specs.Courses.{Given, given, joined_output}
 use Rattle.spec_run.specs.Joins.{lack_of}
 use Rattle.spec_program.specs.declared.course.Course.TheVariants as course
@@ -40,6 +41,10 @@ itself tree = Ok tree
 -- the tree that the rules of these bytes of a rules file make of it
 abbrev pub mocked : List ℕ → Standing
 mocked rules tree = go_on (substitute tree) (rules_in rules)
+
+-- the tree that they make where its openings are told apart, which a tree file can have
+abbrev pub mocked_apart : List ℕ → Standing
+mocked_apart rules tree = go_on (λ r. substitute (told_apart r tree) r) (rules_in rules)
 
 -- what is run with a world
 abbrev pub standing_output : Result Tree MockFault → World → Given → Output
@@ -111,3 +116,18 @@ PrintGives print main tree output =
 
 abbrev pub Prints : Print → Option (List ℕ) → Giving
 Prints print main = λ files moments drivers. PrintGives print main files.tree
+
+-- the output of what is printed of the tree that rules make of one that was read
+abbrev pub made_output : List ℕ → Result Tree TreeFault → Output
+made_output rules (Ok tree) = print_made (mocked_apart rules tree)
+made_output rules (Err fault) = tree_refused fault
+
+-- .. over the bytes of both files
+abbrev pub MadeGives : Option (List ℕ) → List ℕ → List ℕ → Output → Type 0
+MadeGives main tree rules output =
+    OrTooLong tree (too_long file.Tree) output
+    (OrTooLong rules (too_long file.Rules) output
+    ((read : Result Tree TreeFault) × TreeReads main tree read × (output ≡ made_output rules read)))
+
+abbrev pub PrintsMade : Option (List ℕ) → Giving
+PrintsMade main = λ files moments drivers. MadeGives main files.tree files.rules

@@ -13,5 +13,6 @@ pub mod Printed
 pub mod Reads
 pub mod Refusals
 pub mod Refused
+pub mod ToldApart
 pub mod TreeFiles
 pub mod Words

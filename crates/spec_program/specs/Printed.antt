@@ -6,6 +6,7 @@ use Rattle.spec_program.specs.declared.exit.Exit.TheVariants as exit
 use Rattle.spec_program.specs.declared.print.Print.{Print}
 use Rattle.spec_program.specs.declared.print.Print.TheVariants as print
 use Rattle.spec_program.specs.declared.tree_fault.TreeFault.{TreeFault}
+use Rattle.spec_tree_file.specs.declared.mock_fault.MockFault.{MockFault}
 use Rattle.spec_world_file.specs.declared.ground_fault.GroundFault.{GroundFault}
 use Rattle.spec_tree.specs.declared.term.Term.{Term, fold-Term}
 use Rattle.spec_tree.specs.declared.term.Tree.{Tree}
@@ -13,7 +14,7 @@ use Rattle.spec_output.specs.Lines.{quoted}
 use Rattle.spec_tree.specs.PrintedTree.{tree_lines}
 use Rattle.spec_tree.specs.Terms.{node_count, work_of}
 use Rattle.spec_program.specs.Output.{Never, Output}
-use Rattle.spec_program.specs.Refused.{ground_refused, tree_refused}
+use Rattle.spec_program.specs.Refused.{ground_refused, rules_refused, tree_refused}
 use Rattle.spec_world_file.specs.GroundFile.{Grounded}
 
 -- the last line of a check: how many nodes the tree has, and its work
@@ -45,6 +46,11 @@ printed_bytes print.Dead tree = concat (map (dead_line (node_ids tree.term)) (de
 abbrev pub print_output : Print → Result Tree TreeFault → Output
 print_output print (Ok tree) = record { bytes = printed_bytes print tree; exit = exit.Done; drivers = None; asked = Never }
 print_output print (Err fault) = tree_refused fault
+
+-- what is printed of a tree that rules make, or their refusal
+abbrev pub print_made : Result Tree MockFault → Output
+print_made (Ok tree) = record { bytes = printed_bytes print.Whole tree; exit = exit.Done; drivers = None; asked = Never }
+print_made (Err fault) = rules_refused fault
 
 -- the text of a ground file, or its refusal
 abbrev pub ground_output : Result Grounded GroundFault → Output

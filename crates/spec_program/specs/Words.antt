@@ -38,6 +38,7 @@ pub data Command : Type 0 where
   Dead : (tree : List ℕ) (main : Option (List ℕ)) → Command
   Plan : (world : List ℕ) (expand ticks period : ℕ) → Command
   Mock : (tree world rules : List ℕ) (main : Option (List ℕ)) → Command
+  MockPrint : (tree rules : List ℕ) (main : Option (List ℕ)) → Command
   Ground : (world : List ℕ) → Command
   GroundPlan : (world : List ℕ) (expand ticks period : ℕ) → Command
 
@@ -84,16 +85,28 @@ abbrev pub load_of : List (List ℕ) → Option Command
 load_of (word ∷ []) = option_map Load (as_count most_leaves (int_in word))
 load_of _ = None
 
--- `TREE [--main ID]`: the tree file, and the ID where it is given
-abbrev pub tree_words : List (List ℕ) → Option (List ℕ × Option (List ℕ))
-tree_words (tree ∷ options) = if are_options (is_option takes.Main) options then Some (tree, value_of (codes "--main") options) else None
-tree_words _ = None
+-- `[--main ID]`: the ID where it is given
+abbrev pub main_in : List (List ℕ) → Option (Option (List ℕ))
+main_in options = if are_options (is_option takes.Main) options then Some (value_of (codes "--main") options) else None
 
+-- options without `--strict`, which has no value and stands before or after the other one
+abbrev pub without_strict : List (List ℕ) → List (List ℕ)
+without_strict (flag ∷ []) = if bytes_eq flag (codes "--strict") then [] else flag ∷ []
+without_strict (first ∷ second ∷ third ∷ []) =
+    if bytes_eq first (codes "--strict") then second ∷ third ∷ []
+    else if bytes_eq third (codes "--strict") then first ∷ second ∷ []
+    else first ∷ second ∷ third ∷ []
+without_strict options = options
+
+-- `TREE [--main ID] [--strict]`, which is answered alike with `--strict` and without
 abbrev pub check_of : List (List ℕ) → Option Command
-check_of words = option_map (λ named. Check named.0 named.1) (tree_words words)
+check_of (tree ∷ options) = option_map (Check tree) (main_in (without_strict options))
+check_of _ = None
 
+-- `TREE [--main ID]`
 abbrev pub dead_of : List (List ℕ) → Option Command
-dead_of words = option_map (λ named. Dead named.0 named.1) (tree_words words)
+dead_of (tree ∷ options) = option_map (Dead tree) (main_in options)
+dead_of _ = None
 
 -- what the options say of the limits of a plan
 abbrev pub expand_in : List (List ℕ) → Option ℕ
@@ -128,9 +141,18 @@ ground_of (world ∷ []) = Some (Ground world)
 ground_of _ = None
 
 -- `TREE WORLD RULES [--main ID]`
+abbrev pub mock_run_of : List (List ℕ) → Option Command
+mock_run_of (tree ∷ world ∷ rules ∷ options) = option_map (Mock tree world rules) (main_in options)
+mock_run_of _ = None
+
+-- `TREE RULES [--main ID]`
+abbrev pub mock_print_of : List (List ℕ) → Option Command
+mock_print_of (tree ∷ rules ∷ options) = option_map (MockPrint tree rules) (main_in options)
+mock_print_of _ = None
+
+-- those words, after `--print` the latter
 abbrev pub mock_of : List (List ℕ) → Option Command
-mock_of (tree ∷ world ∷ rules ∷ options) =
-    if are_options (is_option takes.Main) options then Some (Mock tree world rules (value_of (codes "--main") options)) else None
+mock_of (word ∷ words) = if bytes_eq word (codes "--print") then mock_print_of words else mock_run_of (word ∷ words)
 mock_of _ = None
 
 -- the commands by their first words, each with what it makes of the words after it

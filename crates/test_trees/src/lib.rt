@@ -8,6 +8,8 @@ mod grounds;
 #[cfg(test)]
 mod limits;
 #[cfg(test)]
+mod mocked;
+#[cfg(test)]
 mod plans;
 #[cfg(test)]
 mod printed;

@@ -44,7 +44,7 @@ finish 1 at 0
 Done";
 
 /// Words with what they are answered.
-static WORDS: [(&[&str], &str); 21] = [
+static WORDS: [(&[&str], &str); 28] = [
     (&["check"], "refused words\nWords"),
     (&["check", "T", "W"], "refused words\nWords"),
     (&["check", "T", "--mian", "M"], "refused words\nWords"),
@@ -55,6 +55,25 @@ static WORDS: [(&[&str], &str); 21] = [
     ),
     (&["check", "T"], TWO_CHECKS_PRINTED),
     (&["check", "T", "--main", "M"], TWO_CHECKS_PRINTED),
+    (&["check", "T", "--strict"], TWO_CHECKS_PRINTED),
+    (
+        &["check", "T", "--strict", "--main", "M"],
+        TWO_CHECKS_PRINTED,
+    ),
+    (
+        &["check", "T", "--main", "M", "--strict"],
+        TWO_CHECKS_PRINTED,
+    ),
+    (
+        &["check", "T", "--strict", "--strict"],
+        "refused words\nWords",
+    ),
+    (&["check", "--strict", "T"], "refused words\nWords"),
+    (
+        &["check", "T", "--main", "--strict"],
+        "refused tree NoTree '--strict'\nTree",
+    ),
+    (&["dead", "T", "--strict"], "refused words\nWords"),
     (&["tick", "T", "W", "--main", "M"], TWO_CHECKS_TRACE),
     (
         &["check", "T", "--main", "N"],

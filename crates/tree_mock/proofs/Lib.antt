@@ -1,6 +1,7 @@
 pub mod AboutPatterns
 pub mod Eaches
 pub mod Ordered
+pub mod Parting
 pub mod ReadFit
 pub mod Rates
 pub mod Replacing

@@ -1,6 +1,7 @@
 //! Mocks: a tree tested with its leaves replaced, by rules in a JSON file whose patterns have stars.
 #![tactic(auto)]
 
+mod apart;
 pub mod laws;
 mod limits;
 mod names;
@@ -9,6 +10,7 @@ mod patterns;
 mod reading;
 mod substituting;
 
+pub use apart::told_apart;
 pub use patterns::is_match;
 pub use reading::read_rules;
 pub use substituting::substitute;

@@ -33,7 +33,7 @@ fn inside_tree(alloc: Global, above: &[u8], name: &Name) -> Result<Vec<u8>, NoMe
 /// Adds a term after the others. Terms are large, and come by their places on the heap, since the stack holds a level
 /// for each node above.
 #[inline(never)]
-fn add_term(terms: &mut Vec<Term>, term: Boxed<Term>) -> Result<(), NoMemory>
+pub fn add_term(terms: &mut Vec<Term>, term: Boxed<Term>) -> Result<(), NoMemory>
     ensures { OnOk result (terms.new.items ≡ terms.old.items ++ term ∷ []) }
 {
     terms.push(term.into_inner())?;

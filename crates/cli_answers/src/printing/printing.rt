@@ -1,8 +1,10 @@
 ghost use Rattle.std.specs.Prelude.{◌≡◌, ◌≤◌, ◌++◌, IfOk, OnOk, IsErrOf, Ok};
 ghost use Rattle.std.specs.List.{concat};
 ghost use Rattle.cli_refusals.specs.Printing.{Printed};
-ghost use Rattle.spec_program.specs.Printed.{count_line, print_output, printed_bytes};
+ghost use Rattle.spec_program.specs.Printed.{count_line, print_made, print_output, printed_bytes};
+ghost use Rattle.spec_tree.specs.Limits.{most_nodes, most_work};
 ghost use Rattle.spec_tree.specs.PrintedTree.{tree_lines};
+ghost use Rattle.spec_tree.specs.Terms.{node_count, work_of};
 ghost use Rattle.spec_tree.specs.Trees.{IsValid};
 ghost use Rattle.spec_outside.specs.Appending.{Appended, AppendedPrefix};
 ghost use Rattle.spec_outside.specs.Counts.{Rose};
@@ -19,7 +21,8 @@ use tree_build::work;
 
 /// The last line of a check.
 fn count_line(alloc: Global, tree: &Tree) -> Result<Vec<u8>, NoMemory>
-    requires { IsValid tree.now }
+    requires nodes { node_count tree.now.term ≤ most_nodes }
+    requires work { work_of tree.now.term ≤ most_work }
     ensures { IfOk result (λ line. line.items ≡ count_line tree.now) }
 {
     let mut line = Vec::new(alloc);
@@ -35,7 +38,8 @@ fn count_line(alloc: Global, tree: &Tree) -> Result<Vec<u8>, NoMemory>
 /// failures rose in this call.
 #[tactic(auto, using(base_outside::proofs::Appends::appending))]
 fn write_check<K: Sink>(alloc: Global, tree: &Tree, out: &mut K) -> Result<(), TextStop>
-    requires { IsValid tree.now }
+    requires nodes { node_count tree.now.term ≤ most_nodes }
+    requires work { work_of tree.now.term ≤ most_work }
     ensures whole { OnOk result (Appended
         (K.written out.old) (K.written out.new) (concat (tree_lines tree.now) ++ count_line tree.now)) }
     ensures prefix { AppendedPrefix
@@ -77,6 +81,21 @@ pub fn print_tree<K: Sink>(alloc: Global, tree: &Tree, print: Print, out: &mut K
     ensures count { K.faults out.old ≤ K.faults out.new }
 {
     match write_printed(alloc, tree, print, out) {
+        Ok(()) => Exit::Done,
+        Err(TextStop::WriteFault) => Exit::Write,
+        Err(TextStop::NoMemory) => Exit::Memory,
+    }
+}
+
+/// Prints a tree that rules make of another one, and its counts.
+pub fn print_made<K: Sink>(alloc: Global, tree: &Tree, out: &mut K) -> Exit
+    requires nodes { node_count tree.now.term ≤ most_nodes }
+    requires work { work_of tree.now.term ≤ most_work }
+    ensures printed { Printed (print_made (Ok tree.now)) result
+        (K.written out.old) (K.faults out.old) (K.written out.new) (K.faults out.new) }
+    ensures count { K.faults out.old ≤ K.faults out.new }
+{
+    match write_check(alloc, tree, out) {
         Ok(()) => Exit::Done,
         Err(TextStop::WriteFault) => Exit::Write,
         Err(TextStop::NoMemory) => Exit::Memory,
