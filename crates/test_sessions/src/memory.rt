@@ -6,6 +6,7 @@ use host_session::Session;
 use spec_world::{Telling, What};
 use std::alloc::Global;
 use std::process::Abort;
+use std::rt::Files;
 use std::{fs, io};
 
 /// A condition and an action that are told, and an entry that changes where the action ends.
@@ -25,7 +26,7 @@ static LATE: u64 = 60_000;
 static MOST: u64 = 256;
 
 /// How much memory this process has beside files, in KiB, as the host counts it page by page.
-fn memory(rt: &HostRuntime) -> io::Result<u64> {
+fn memory(rt: &(impl Files + AllocGlobal)) -> io::Result<u64> {
     let told = fs::read_to_string(rt, "/proc/self/smaps_rollup")?;
     let line = told
         .as_str()
@@ -77,7 +78,11 @@ fn make_rounds(rt: &impl Abort, alloc: Global, session: &mut Session, from: u64,
 }
 
 /// How much memory the process has after the early rounds of a session and after the late ones.
-fn memories(rt: &HostRuntime, alloc: Global, session: &mut Session) -> io::Result<(u64, u64)> {
+fn memories(
+    rt: &(impl Abort + Files + AllocGlobal),
+    alloc: Global,
+    session: &mut Session,
+) -> io::Result<(u64, u64)> {
     // What the look itself takes is there already when it counts.
     memory(rt)?;
     make_rounds(rt, alloc, session, 0, EARLY);

@@ -36,7 +36,7 @@ fn line_of(alloc: Global, session: &Session, uid: u32, label: &Label) -> Result<
 /// The lines of all nodes.
 fn lines_of(alloc: Global, session: &Session) -> Result<String, NoMemory> {
     let mut lines = String::new(alloc);
-    for before in 0..session.nodes() as u32 {
+    for before in 0..u32::try_from(session.nodes()).unwrap_or(0) {
         if let Some(label) = session.label(before + 1) {
             lines.push_str(line_of(alloc, session, before + 1, label)?.as_str())?;
         }
