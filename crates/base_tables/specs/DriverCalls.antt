@@ -1,12 +1,13 @@
 -- What a call of a driver leaves, and what its roster must be for it.
-use Rattle.std.specs.Prelude.{ℕ, ◌+◌, ◌<◌, ◌≤◌, ℤ, List, [], ◌∷◌, length, slice_set, count_by, MatchOption}
+use Rattle.std.specs.Prelude.{ℕ, ◌+◌, ◌<◌, ◌≤◌, ℤ, List, [], ◌∷◌, length, slice_set, count_by, Option, MatchOption}
 use Rattle.spec_script.specs.declared.cells.Seen.{Seen}
+use Rattle.spec_script.specs.declared.value.Value.{Value}
 use Rattle.spec_run.specs.declared.leaf.DriverKind.{DriverKind}
 use Rattle.spec_run.specs.declared.leaf.Instance.{Instance}
 use Rattle.spec_run.specs.declared.leaf.Phase.{Phase}
 use Rattle.spec_world.specs.declared.world.RowSort.TheVariants.{Timed, Replay, Gate}
 use Rattle.spec_world.specs.declared.world.Telling.{Telling}
-use Rattle.spec_run.specs.Leaf.{Way, Tests, Lasts, Replays, Waits, Heeds, Obeys, Rule, Answered, released, rule_answer, told}
+use Rattle.spec_run.specs.Leaf.{Way, Tests, Lasts, Replays, Waits, Heeds, Obeys, Rule, Answered, keeping, released, rule_answer, told}
 use Rattle.spec_run.specs.Drivers.{DriverState, instance_of, is_held, after_call, driver_at}
 use Rattle.spec_run.specs.declared.leaf.DriverKind.TheVariants as driver
 use Rattle.spec_run.specs.declared.leaf.Phase.TheVariants as phase
@@ -36,6 +37,10 @@ after_halted d instance = after_call d phase.Halted instance (released (instance
 abbrev pub after_told : DriverState → ℕ → Telling → DriverState
 after_told d instance telling = after_call d phase.Told instance (told telling (instance_of d instance))
 
+-- the driver after an instance was made to keep these values of its inputs
+abbrev pub after_kept : DriverState → ℕ → List (Option Value) → DriverState
+after_kept d instance inputs = record d { table = slice_set d.table instance (keeping inputs (instance_of d instance)) }
+
 -- what a call of `start` or `running` of an instance leaves by this rule
 abbrev pub driver_answer : DriverState → ℕ → Rule → Phase → List Seen → List ℤ → ℕ → Answered
 driver_answer d instance rule phase inputs facts now = rule_answer rule phase (instance_of d instance) inputs facts now
@@ -51,6 +56,10 @@ roster_halted ds place instance = slice_set ds place (after_halted (driver_at ds
 -- the drivers after an instance of the one at a place was told something
 abbrev pub roster_told : List DriverState → ℕ → ℕ → Telling → List DriverState
 roster_told ds place instance telling = slice_set ds place (after_told (driver_at ds place) instance telling)
+
+-- the drivers after an instance of the one at a place was made to keep these values
+abbrev pub roster_kept : List DriverState → ℕ → ℕ → List (Option Value) → List DriverState
+roster_kept ds place instance inputs = slice_set ds place (after_kept (driver_at ds place) instance inputs)
 
 -- there is this instance of the driver at this place
 abbrev pub IsThere : List DriverState → ℕ → ℕ → Type 0

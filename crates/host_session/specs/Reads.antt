@@ -4,6 +4,7 @@ use Rattle.std.specs.List.{flat_map}
 use Rattle.spec_script.specs.declared.value.Value.{Value}
 use Rattle.spec_run.specs.declared.memory.Memory.{Memory, Memory-F, fold-Memory}
 use Rattle.spec_run.specs.declared.status.Status.{Status}
+use Rattle.spec_run.specs.Leaf.{fresh}
 use Rattle.spec_run.specs.Run.{Runner}
 use Rattle.base_tables.specs.SlotTables.{slot_of}
 use Rattle.spec_run.specs.Ports.{given_by}
@@ -28,15 +29,23 @@ abbrev pub entry_of : Sitting → ℕ → ℕ → List ℕ → Option Value
 entry_of s runner scope key = option_and_then (λ slot. slice_index_or (board_of s runner) slot None) (slot_of s.tree scope key)
 
 -- what a port has that is given this in the scope of a number: its literal, or the value of the entry of its key
-abbrev pub input_by : Sitting → ℕ → ℕ → Option PortValue → Option Value
-input_by s runner scope (Some (Lit value)) = Some value
-input_by s runner scope (Some (Key key)) = entry_of s runner scope key
-input_by s runner scope None = None
+abbrev pub port_by : Sitting → ℕ → ℕ → Option PortValue → Option Value
+port_by s runner scope (Some (Lit value)) = Some value
+port_by s runner scope (Some (Key key)) = entry_of s runner scope key
+port_by s runner scope None = None
 
 -- the value of a port of a node
-abbrev pub input_of : Sitting → ℕ → ℕ → List ℕ → Option Value
-input_of s runner uid port =
-    option_and_then (λ (l : Label). input_by s runner l.scope (given_by (port_of l.ports port))) (numbered (labels s.tree) uid)
+abbrev pub port_value : Sitting → ℕ → ℕ → List ℕ → Option Value
+port_value s runner uid port =
+    option_and_then (λ (l : Label). port_by s runner l.scope (given_by (port_of l.ports port))) (numbered (labels s.tree) uid)
+
+-- what the input ports of a runner's leaf held when it was started last, where it is told what it answers
+abbrev pub inputs_by : Option Runner → ℕ → List (Option Value)
+inputs_by (Some r) uid = (slice_index_or r.instances uid fresh).inputs
+inputs_by None uid = []
+
+abbrev pub inputs_of : Sitting → ℕ → ℕ → List (Option Value)
+inputs_of s runner uid = inputs_by (numbered s.state.runners runner) uid
 
 -- the statuses of nodes in pre-order, where those of its children are known
 abbrev pub statuses_step : Memory-F (List Status) → List Status

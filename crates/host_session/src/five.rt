@@ -1,9 +1,10 @@
 ghost use Rattle.std.specs.Prelude.{◌≡◌};
 
-use base_texts::NoMemory;
+use base_texts::{Items, NoMemory};
 use run_driver::{Call, Driver, Drivers, FactTable, Outs};
 use run_leaves::{Conditions, Gate, Replay, Timed, Told};
 use spec_run::{DriverKind, Reply, Totals};
+use spec_script::Value;
 use spec_world::Telling;
 use std::alloc::Global;
 
@@ -21,7 +22,7 @@ impl Five {
     ghost use Rattle.spec_session.specs.Opening.{new_drivers};
     ghost use Rattle.std.specs.Prelude.{◌<◌, ◌↔◌, IsTrue, OnOk, OnErr, slice_set};
     ghost use Rattle.spec_run.specs.Drivers.{HoldsNothing, driver_at, prepared};
-    ghost use Rattle.base_tables.specs.DriverCalls.{total_held};
+    ghost use Rattle.base_tables.specs.DriverCalls.{instance_at, total_held};
     ghost use Rattle.host_session.specs.Five.{states_of};
 
     /// Drivers that were not called yet. It allocates nothing.
@@ -47,6 +48,21 @@ impl Five {
         let gate = self.gate.held() as u64;
         let told = self.told.held() as u64;
         conditions + timed + replay + gate + told == 0
+    }
+
+    /// Lends what the inputs of an instance of the driver at a place held when its leaf was started last; none of one that
+    /// is not there.
+    pub fn inputs(&self, place: usize, instance: u32) -> &[Option<Value>]
+        ensures { result.now ≡ (instance_at (states_of self.now) place instance).inputs }
+    {
+        match place {
+            0 => self.conditions.inputs(instance),
+            1 => self.timed.inputs(instance),
+            2 => self.replay.inputs(instance),
+            3 => self.gate.inputs(instance),
+            4 => self.told.inputs(instance),
+            _ => &[],
+        }
     }
 
     /// Prepares the driver at a place. Where there is want of memory, all is as before.
@@ -135,6 +151,16 @@ impl Drivers for Five {
             2 => self.replay.tell(instance, telling),
             3 => self.gate.tell(instance, telling),
             _ => self.told.tell(instance, telling),
+        }
+    }
+
+    fn keep_inputs(&mut self, place: usize, instance: u32, inputs: Items<Option<Value>>) {
+        match place {
+            0 => self.conditions.keep_inputs(instance, inputs),
+            1 => self.timed.keep_inputs(instance, inputs),
+            2 => self.replay.keep_inputs(instance, inputs),
+            3 => self.gate.keep_inputs(instance, inputs),
+            _ => self.told.keep_inputs(instance, inputs),
         }
     }
 }

@@ -1,13 +1,17 @@
 //! What a host reads of a session. No read allocates memory.
-ghost use Rattle.std.specs.Prelude.{◌≡◌};
+ghost use Rattle.std.specs.Prelude.{◌≡◌, slice_index_or};
 ghost use Rattle.std.specs.Option.{option_copied};
 ghost use Rattle.base_tables.specs.SlotTables.{slot_table};
 ghost use Rattle.spec_tree.specs.Boards.{port_of};
 ghost use Rattle.spec_run.specs.Ports.{given_by};
 ghost use Rattle.run_arena.specs.Blocks.{seen};
+ghost use Rattle.run_arena.specs.Rosters.{instances_of};
+ghost use Rattle.spec_run.specs.Leaf.{fresh};
+ghost use Rattle.host_session.specs.Five.{states_of};
 ghost use Rattle.host_session.specs.Numbered.{numbered};
 ghost use Rattle.host_session.specs.Statuses.{status_at};
 
+use crate::five::Five;
 use crate::session::Session;
 use base_texts::Name;
 use run_arena::{Arena, Block};
@@ -40,6 +44,19 @@ fn status_in(arena: &Arena, uid: u32) -> Option<Status>
     }
 }
 
+/// Lends what the inputs of the leaf of a uid held when it was started last; none where there is no such leaf.
+fn inputs_in<'a>(five: &'a Five, arena: &Arena, uid: u32) -> &'a [Option<Value>]
+    ensures { result.now ≡ (slice_index_or (instances_of arena.now.nodes.items (states_of five.now)) uid fresh).inputs }
+{
+    match arena.nodes.get(uid as usize) {
+        Some(node) => match &node.leaf {
+            Some(leaf) => five.inputs(leaf.driver, leaf.instance),
+            None => &[],
+        },
+        None => &[],
+    }
+}
+
 /// Lends what the port of this name is given; none where it is given nothing.
 fn given<'a>(ports: &'a [Port], name: &Name) -> Option<&'a PortValue>
     ensures { option_copied result ≡ given_by (port_of ports.now name.now) }
@@ -51,7 +68,7 @@ impl Session {
     ghost use Rattle.std.specs.Prelude.{count_by, length};
     ghost use Rattle.spec_run.specs.Joins.{is_leaf};
     ghost use Rattle.spec_session.specs.Labels.{labels};
-    ghost use Rattle.host_session.specs.Reads.{board_of, entry_of, input_of, status_of};
+    ghost use Rattle.host_session.specs.Reads.{board_of, entry_of, inputs_of, port_value, status_of};
 
     /// Lends the block of the last event: its header, what happened, and the facts and entries that changed.
     pub fn block(&self) -> &Block
@@ -153,13 +170,25 @@ impl Session {
 
     /// Lends the value that a port of a node has now: its literal, or that of the entry of its key. None where the port
     /// is given nothing, or there is no such entry, node or runner.
-    pub fn input(&self, runner: u8, uid: u32, port: &Name) -> Option<&Value>
-        ensures { option_copied result ≡ input_of self.now runner uid port.now }
+    pub fn port(&self, runner: u8, uid: u32, port: &Name) -> Option<&Value>
+        ensures { option_copied result ≡ port_value self.now runner uid port.now }
     {
         let label = self.label(uid)?;
         match given(label.ports.list(), port)? {
             PortValue::Lit(value) => Some(value),
             PortValue::Key(key) => self.entry(runner, label.scope, key),
+        }
+    }
+
+    /// Lends what the input ports of a leaf held when it was started last, in the order of its row's ports: a value, or none
+    /// where a port had none. They are kept for leaves that are told what they answer; of any other node, and before the
+    /// first start, there are none.
+    pub fn inputs(&self, runner: u8, uid: u32) -> &[Option<Value>]
+        ensures { result.now ≡ inputs_of self.now runner uid }
+    {
+        match runner_of(&self.runs, runner) {
+            Some(runner) => inputs_in(&self.five, &runner.arena, uid),
+            None => &[],
         }
     }
 

@@ -1,11 +1,12 @@
 -- A call of a driver: when it may be made, and what it leaves.
-use Rattle.std.specs.Prelude.{◌≡◌, ℕ, ℤ, if◌then◌else◌, List, None, slice_set}
+use Rattle.std.specs.Prelude.{◌≡◌, ℕ, ℤ, if◌then◌else◌, List, Option, None, slice_set}
+use Rattle.spec_script.specs.declared.value.Value.{Value}
 use Rattle.spec_run.specs.declared.leaf.Instance.{Instance}
 use Rattle.spec_run.specs.declared.leaf.Phase.{Phase}
 use Rattle.spec_run.specs.declared.leaf.Phase.TheVariants as phase
 use Rattle.spec_run.specs.declared.leaf.DriverKind.TheVariants as driver
 use Rattle.spec_run.specs.Drivers.{DriverState, after_call, driver_at, same_kind}
-use Rattle.base_tables.specs.DriverCalls.{IsHeldBy, after_told, driver_answer}
+use Rattle.base_tables.specs.DriverCalls.{IsHeldBy, after_kept, after_told, driver_answer}
 use Rattle.spec_world.specs.declared.world.Telling.{Telling}
 use Rattle.spec_run.specs.Leaf.{Answered}
 use Rattle.run_driver.specs.declared.call.Call.{Call}
@@ -34,6 +35,10 @@ call_left d call facts = after_call d (phase_asked call.phase) call.instance (ca
 -- the driver after it was told something of an instance: that of another kind of row stays as it is
 abbrev pub told_left : DriverState → ℕ → Telling → DriverState
 told_left d instance telling = if same_kind d.kind driver.Told then after_told d instance telling else d
+
+-- the driver after an instance was made to keep the values of its inputs: that of another kind of row stays as it is
+abbrev pub kept_left : DriverState → ℕ → List (Option Value) → DriverState
+kept_left d instance inputs = if same_kind d.kind driver.Told then after_kept d instance inputs else d
 
 -- ---- A call of the driver at a place of a roster
 

@@ -2,14 +2,15 @@ ghost use Rattle.std.specs.Prelude.{◌≡◌, ◌<◌, length, IsSome, OnOk, On
 ghost use Rattle.spec_run.specs.Drivers.{DriverState, HoldsNothing, instance_of, prepared};
 ghost use Rattle.base_tables.specs.DriverCalls.{after_halted, held_count, kind_of_way};
 ghost use Rattle.base_tables.specs.Outputs.{outputs_after};
-ghost use Rattle.run_driver.specs.Calls.{IsAskedIn, call_answer, call_left, told_left};
+ghost use Rattle.run_driver.specs.Calls.{IsAskedIn, call_answer, call_left, kept_left, told_left};
 ghost use Rattle.run_driver.specs.Rules.{rule};
 
 use crate::call::Call;
 use crate::facts::FactTable;
 use crate::outs::Outs;
-use base_texts::NoMemory;
+use base_texts::{Items, NoMemory};
 use spec_run::{DriverKind, Reply, Totals};
+use spec_script::Value;
 use spec_world::Telling;
 
 /// What answers for the leaves of one kind of row: it keeps an instance for each leaf that it
@@ -29,6 +30,11 @@ pub trait Driver: Drop {
     /// How many of its instances are held.
     fn held(&self) -> u32
         ensures { result ≡ held_count (state self.now) };
+
+    /// Lends what the inputs of this instance held when its leaf was started last. Those of leaves that are told nothing are
+    /// not kept, and an instance that is not there has none.
+    fn inputs(&self, instance: u32) -> &[Option<Value>]
+        ensures { result.now ≡ (instance_of (state self.now) instance).inputs };
 
     /// Replaces its instances by this many new ones, none of them held or completed. Where there is
     /// want of memory (it is out of memory), nothing changes.
@@ -59,4 +65,10 @@ pub trait Driver: Drop {
     fn tell(&mut self, instance: u32, telling: Telling)
         requires { instance < length (state self.old).table }
         ensures { state self.new ≡ told_left (state self.old) instance telling };
+
+    /// Keeps what the inputs of the leaf of this instance hold, which is to be started, in place of those that it kept
+    /// before. It leaves every driver as it is but that of the rows whose leaves are told what they answer.
+    fn keep_inputs(&mut self, instance: u32, inputs: Items<Option<Value>>)
+        requires { instance < length (state self.old).table }
+        ensures { state self.new ≡ kept_left (state self.old) instance inputs };
 }

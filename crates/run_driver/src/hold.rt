@@ -9,12 +9,12 @@ pub struct Hold {
 }
 
 impl Model for Hold {
-    ghost use Rattle.std.specs.Prelude.{None};
+    ghost use Rattle.std.specs.Prelude.{[], None};
     ghost use Rattle.spec_run.specs.declared.leaf.Instance.{Instance};
 
     ghost Value = { Instance };
 
-    ghost view = { λ hold. record { since = hold.since; completions = hold.completions; told = None } };
+    ghost view = { λ hold. record { since = hold.since; completions = hold.completions; told = None; inputs = [] } };
 
     ghost inverse = { λ instance. record { since = instance.since; completions = instance.completions } };
 }

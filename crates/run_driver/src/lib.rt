@@ -25,7 +25,7 @@ pub use hold::Hold;
 pub use outs::Outs;
 pub use readying::{kind_of, ready};
 pub use roster::{
-    Drivers, call_at, find_kind, halt_at, hold_nothing, prepare_all, tell_at, totals_of,
+    Drivers, call_at, find_kind, halt_at, hold_nothing, keep_at, prepare_all, tell_at, totals_of,
 };
 pub use row::ReadyRow;
 pub use sort::ReadySort;

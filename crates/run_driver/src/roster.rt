@@ -1,17 +1,18 @@
 ghost use Rattle.std.specs.Prelude.{◌≡◌, ◌<◌, ◌≤◌, ◌↔◌, ℕ, List, length, map, take, IsSome, IsTrue, OnOk, OnErr};
 ghost use Rattle.spec_run.specs.Drivers.{DriverState, HoldsNothing, NothingHeld, driver_at, instance_of, place_of_kind, prepared, roster_prepared};
-ghost use Rattle.base_tables.specs.DriverCalls.{IsThere, after_halted, held_count, instance_at, kind_of_way, roster_halted, roster_told, total_held};
+ghost use Rattle.base_tables.specs.DriverCalls.{IsThere, after_halted, held_count, instance_at, kind_of_way, roster_halted, roster_kept, roster_told, total_held};
 ghost use Rattle.spec_run.specs.declared.leaf.DriverKind.TheVariants as kinds;
 ghost use Rattle.base_tables.specs.Outputs.{outputs_after};
-ghost use Rattle.run_driver.specs.Calls.{IsAskedIn, answer_at, call_answer, call_left, roster_left, told_left};
+ghost use Rattle.run_driver.specs.Calls.{IsAskedIn, answer_at, call_answer, call_left, kept_left, roster_left, told_left};
 ghost use Rattle.run_driver.specs.Rules.{rule};
 
 use crate::call::Call;
 use crate::driver::Driver;
 use crate::facts::FactTable;
 use crate::outs::Outs;
-use base_texts::NoMemory;
+use base_texts::{Items, NoMemory};
 use spec_run::{DriverKind, Reply, Totals};
+use spec_script::Value;
 use spec_world::Telling;
 
 /// The drivers of a run, each at its place. No call but `prepare` allocates memory, and none
@@ -69,6 +70,12 @@ pub trait Drivers {
         requires there { IsThere (states self.old) place instance }
         requires kind { (driver_at (states self.old) place).kind ≡ kinds.Told }
         ensures { states self.new ≡ roster_told (states self.old) place instance telling };
+
+    /// Makes one of the instances of the driver at a place keep what its inputs hold.
+    fn keep_inputs(&mut self, place: usize, instance: u32, inputs: Items<Option<Value>>)
+        requires there { IsThere (states self.old) place instance }
+        requires kind { (driver_at (states self.old) place).kind ≡ kinds.Told }
+        ensures { states self.new ≡ roster_kept (states self.old) place instance inputs };
 }
 
 /// The kind of one driver.
@@ -135,6 +142,14 @@ fn tell_one(driver: &mut Box<dyn Driver>, instance: u32, telling: Telling)
     ensures { state driver.new ≡ told_left (state driver.old) instance telling }
 {
     driver.tell(instance, telling)
+}
+
+/// Makes an instance of one driver keep what its inputs hold.
+fn keep_one(driver: &mut Box<dyn Driver>, instance: u32, inputs: Items<Option<Value>>)
+    requires { instance < length (state driver.old).table }
+    ensures { state driver.new ≡ kept_left (state driver.old) instance inputs }
+{
+    driver.keep_inputs(instance, inputs)
 }
 
 /// The place of the first of these drivers of a kind; none where there is no such driver.
@@ -220,4 +235,18 @@ pub fn tell_at(roster: &mut Vec<Box<dyn Driver>>, place: usize, instance: u32, t
     ensures { map (λ b. state b) roster.new.items ≡ roster_told (map (λ b. state b) roster.old.items) place instance telling }
 {
     tell_one(&mut roster[place], instance, telling)
+}
+
+/// Makes one of the instances of the driver at a place keep what its inputs hold.
+pub fn keep_at(
+    roster: &mut Vec<Box<dyn Driver>>,
+    place: usize,
+    instance: u32,
+    inputs: Items<Option<Value>>,
+)
+    requires there { IsThere (map (λ b. state b) roster.old.items) place instance }
+    requires kind { (driver_at (map (λ b. state b) roster.old.items) place).kind ≡ kinds.Told }
+    ensures { map (λ b. state b) roster.new.items ≡ roster_kept (map (λ b. state b) roster.old.items) place instance inputs }
+{
+    keep_one(&mut roster[place], instance, inputs)
 }

@@ -11,12 +11,12 @@ ghost use Rattle.run_leaves.specs.Conditions.{left_by, reply_by};
 
 use crate::instances::released;
 use crate::ledger::Ledger;
-use base_texts::NoMemory;
+use base_texts::{Items, NoMemory};
 use run_driver::{
     Call, CallPhase, Driver, FactTable, Hold, Inputs, Outs, ReadyExpr, ReadyRow, ReadySort,
 };
 use spec_run::{DriverKind, Phase, Reply, Totals};
-use spec_script::Cmp;
+use spec_script::{Cmp, Value};
 use spec_world::Telling;
 use std::alloc::Global;
 
@@ -146,6 +146,10 @@ impl Driver for Conditions {
         self.ledger.held()
     }
 
+    fn inputs(&self, instance: u32) -> &[Option<Value>] {
+        self.ledger.inputs(instance)
+    }
+
     fn prepare(&mut self, count: u32) -> Result<(), NoMemory> {
         self.ledger.prepare(count)
     }
@@ -165,4 +169,6 @@ impl Driver for Conditions {
     }
 
     fn tell(&mut self, _instance: u32, _telling: Telling) {}
+
+    fn keep_inputs(&mut self, _instance: u32, _inputs: Items<Option<Value>>) {}
 }

@@ -9,6 +9,7 @@ use crate::tally::{count, no_calls};
 use base_texts::NoMemory;
 use run_driver::Hold;
 use spec_run::{DriverKind, Phase, Totals};
+use spec_script::Value;
 use std::alloc::Global;
 use std::marker::Model;
 
@@ -85,6 +86,16 @@ impl Ledger {
         ensures { result ≡ held_count self.now }
     {
         held_among(self.table.as_slice())
+    }
+
+    /// Lends the inputs that an instance keeps: none. The instance is looked at for the contract alone.
+    pub fn inputs(&self, instance: u32) -> &[Option<Value>]
+        ensures { result.now ≡ (instance_of self.now instance).inputs }
+    {
+        if let Some(hold) = self.table.get(instance as usize) {
+            let _ = &hold.since;
+        }
+        &[]
     }
 
     /// Makes this many new instances in place of those that were there. Where there is want of

@@ -4,9 +4,10 @@ ghost use Rattle.spec_run.specs.Leaf as leaf;
 
 use crate::instances::{began, completed, held};
 use crate::ledger::Ledger;
-use base_texts::NoMemory;
+use base_texts::{Items, NoMemory};
 use run_driver::{Call, Driver, FactTable, Hold, Outs, ReadySort};
 use spec_run::{DriverKind, Reply, Totals};
+use spec_script::Value;
 use spec_world::Telling;
 use std::alloc::Global;
 
@@ -92,6 +93,10 @@ impl Driver for Replay {
         self.ledger.held()
     }
 
+    fn inputs(&self, instance: u32) -> &[Option<Value>] {
+        self.ledger.inputs(instance)
+    }
+
     fn prepare(&mut self, count: u32) -> Result<(), NoMemory> {
         self.ledger.prepare(count)
     }
@@ -110,4 +115,6 @@ impl Driver for Replay {
     }
 
     fn tell(&mut self, _instance: u32, _telling: Telling) {}
+
+    fn keep_inputs(&mut self, _instance: u32, _inputs: Items<Option<Value>>) {}
 }

@@ -3,9 +3,10 @@ ghost use Rattle.spec_run.specs.declared.leaf.DriverKind.TheVariants as driver;
 
 use crate::instances::{began, held, released};
 use crate::ledger::Ledger;
-use base_texts::NoMemory;
+use base_texts::{Items, NoMemory};
 use run_driver::{Call, Driver, FactTable, Hold, Outs, ReadySort};
 use spec_run::{DriverKind, Reply, Totals};
+use spec_script::Value;
 use spec_world::Telling;
 use std::alloc::Global;
 
@@ -86,6 +87,10 @@ impl Driver for Timed {
         self.ledger.held()
     }
 
+    fn inputs(&self, instance: u32) -> &[Option<Value>] {
+        self.ledger.inputs(instance)
+    }
+
     fn prepare(&mut self, count: u32) -> Result<(), NoMemory> {
         self.ledger.prepare(count)
     }
@@ -104,4 +109,6 @@ impl Driver for Timed {
     }
 
     fn tell(&mut self, _instance: u32, _telling: Telling) {}
+
+    fn keep_inputs(&mut self, _instance: u32, _inputs: Items<Option<Value>>) {}
 }

@@ -5,20 +5,22 @@ ghost use Rattle.spec_run.specs.Leaf as leaf;
 ghost use Rattle.base_tables.specs.Outputs.{no_outputs, outputs_after, outputs_left};
 
 use crate::tally::{count, no_calls};
-use base_texts::NoMemory;
+use base_texts::{Items, NoMemory};
 use run_driver::{Call, Driver, FactTable, Outs, ReadySort};
 use spec_run::{DriverKind, Instance, Phase, Reply, Totals};
+use spec_script::Value;
 use spec_world::Telling;
 use std::alloc::Global;
 
-/// An instance that was never held, and was told nothing.
-fn fresh() -> Instance
+/// An instance that was never held or started, and was told nothing. It allocates no memory.
+fn fresh(alloc: Global) -> Instance
     ensures { result ≡ leaf.fresh }
 {
     Instance {
         since: None,
         completions: 0,
         told: None,
+        inputs: Items::of(Vec::new(alloc)),
     }
 }
 
@@ -28,7 +30,7 @@ fn fresh_table(alloc: Global, count: u32) -> Result<Vec<Instance>, NoMemory>
 {
     let mut table = Vec::with_capacity(alloc, count as usize)?;
     for _ in 0..count {
-        table.push(fresh())?;
+        table.push(fresh(alloc))?;
     }
     Ok(table)
 }
@@ -124,6 +126,13 @@ impl Driver for Told {
         held_among(self.table.as_slice())
     }
 
+    fn inputs(&self, instance: u32) -> &[Option<Value>] {
+        match self.table.get(instance as usize) {
+            Some(kept) => kept.inputs.list(),
+            None => &[],
+        }
+    }
+
     fn prepare(&mut self, count: u32) -> Result<(), NoMemory> {
         let alloc = *self.table.allocator();
         self.table = fresh_table(alloc, count)?;
@@ -154,5 +163,10 @@ impl Driver for Told {
         count(&mut self.totals, Phase::Told, instance);
         let kept = &mut self.table[instance as usize];
         kept.told = Some(telling);
+    }
+
+    fn keep_inputs(&mut self, instance: u32, inputs: Items<Option<Value>>) {
+        let kept = &mut self.table[instance as usize];
+        kept.inputs = inputs;
     }
 }

@@ -1,11 +1,12 @@
 ghost use Rattle.std.specs.Prelude.{map};
 
-use base_texts::NoMemory;
+use base_texts::{Items, NoMemory};
 use run_driver::{
-    Call, Driver, Drivers, FactTable, Outs, call_at, find_kind, halt_at, hold_nothing, prepare_all,
-    tell_at, totals_of,
+    Call, Driver, Drivers, FactTable, Outs, call_at, find_kind, halt_at, hold_nothing, keep_at,
+    prepare_all, tell_at, totals_of,
 };
 use spec_run::{DriverKind, Reply, Totals};
+use spec_script::Value;
 use spec_world::Telling;
 
 /// The boxed drivers of a run, as the engine calls them.
@@ -48,5 +49,9 @@ impl Drivers for Roster {
 
     fn tell(&mut self, place: usize, instance: u32, telling: Telling) {
         tell_at(&mut self.drivers, place, instance, telling)
+    }
+
+    fn keep_inputs(&mut self, place: usize, instance: u32, inputs: Items<Option<Value>>) {
+        keep_at(&mut self.drivers, place, instance, inputs)
     }
 }

@@ -7,6 +7,7 @@ use Rattle.spec_script.specs.declared.value.Value.{Value}
 use Rattle.spec_script.specs.declared.value.Value.TheVariants.{Int}
 use Rattle.spec_run.specs.declared.fault.NodeFault.{NodeFault}
 use Rattle.spec_run.specs.declared.leaf.Instance.{Instance}
+use Rattle.spec_run.specs.declared.leaf.Phase.{Phase}
 use Rattle.spec_run.specs.declared.leaf.Reply.{Reply}
 use Rattle.spec_run.specs.declared.leaf.Reply.TheVariants.{Running, Success, Broken}
 use Rattle.spec_run.specs.declared.memory.Memo.TheVariants.{Nothing}
@@ -17,7 +18,7 @@ use Rattle.spec_world.specs.declared.world.ToldOut.{ToldOut}
 use Rattle.spec_run.specs.Drivers.{DriverState, roster_called}
 use Rattle.base_tables.specs.DriverCalls.{IsHeldBy, instance_at, roster_answer}
 use Rattle.base_tables.specs.Outputs.{Outputs}
-use Rattle.spec_run.specs.Leaf.{Answered, padded}
+use Rattle.spec_run.specs.Leaf.{Answered, asked, padded, rule_answer}
 use Rattle.spec_run.specs.Leaves.{phase_of, sight, told_for}
 use Rattle.spec_run.specs.Steps.{Given}
 use Rattle.run_driver.specs.Ready.{ready_told}
@@ -33,7 +34,11 @@ use Rattle.run_arena.specs.Stages.{IsSame}
 
 -- ---- Inputs and outputs
 
--- what a driver sees of the inputs of a leaf
+-- what the inputs of a leaf hold
+abbrev pub values_held : List (Option Value) → List Source → List (Option Value)
+values_held board inputs = map (λ (source : Source). source_value board source) inputs
+
+-- what a driver sees of them
 abbrev pub seen_inputs : List (Option Value) → List Source → List Seen
 seen_inputs board inputs = map (λ (source : Source). sight (source_value board source)) inputs
 
@@ -80,10 +85,16 @@ pub record CanBeCalled (slots facts : ℕ) (drivers : List DriverState) (status 
   pub served : IsServed drivers leaf
   pub phase : IsInPhase status (instance_at drivers leaf.driver leaf.instance) now
 
+-- the instance of a leaf of this status that is to be called: it keeps the inputs of a start where it is told what it
+-- answers
+abbrev pub instance_kept : ReadyLeaf → Status → List (Option Value) → List DriverState → Instance
+instance_kept leaf status board drivers =
+    asked (rule leaf.row).way (phase_of status) (values_held board leaf.inputs) (instance_at drivers leaf.driver leaf.instance)
+
 -- what a call of a leaf of this status leaves
 abbrev pub leaf_answer : ReadyLeaf → Status → List (Option Value) → List ℤ → List DriverState → ℕ → Answered
 leaf_answer leaf status board facts drivers now =
-    roster_answer drivers leaf.driver leaf.instance (rule leaf.row) (phase_of status) (padded (seen_inputs board leaf.inputs)) facts now
+    rule_answer (rule leaf.row) (phase_of status) (instance_kept leaf status board drivers) (padded (seen_inputs board leaf.inputs)) facts now
 
 -- the board after a reply of a leaf with these outputs
 abbrev pub board_left : Reply → ReadyLeaf → Outputs → List (Option Value) → List (Option Value)
@@ -120,7 +131,20 @@ answer_to states s status leaf inputs =
 
 -- what a call of its driver with its own inputs leaves
 abbrev pub answer_on : {D : Type 0} → (D → List DriverState) → Stage D → Status → ReadyLeaf → Answered
-answer_on states s status leaf = leaf_answer leaf status s.board.now s.facts.now (states s.drivers.now) s.moment
+answer_on states s status leaf = answer_to states s status leaf (padded (seen_inputs s.board.now leaf.inputs))
+
+-- Its driver keeps the inputs of a start where it is to, and is otherwise as it was: what a call leaves of it is the same,
+-- and nothing else has changed.
+pub record IsReadied {D : Type 0} (states : D → List DriverState) (status : Status) (leaf : ReadyLeaf) (old new : Stage D) : Type 0 where
+  pub same : IsSame old new
+  pub kept : new.kept.now ≡ old.kept.now
+  pub board : new.board.now ≡ old.board.now
+  pub facts : new.facts.now ≡ old.facts.now
+  pub notes : new.notes.now ≡ old.notes.now
+  pub instance : instance_at (states new.drivers.now) leaf.driver leaf.instance ≡ instance_kept leaf status old.board.now (states old.drivers.now)
+  pub served : IsServed (states new.drivers.now) leaf
+  pub called : (phase : Phase) (left : Instance) →
+      roster_called (states new.drivers.now) leaf.driver phase leaf.instance left ≡ roster_called (states old.drivers.now) leaf.driver phase leaf.instance left
 
 -- Its driver was called and gave this answer: the facts and its instance are those after the call, and what nodes keep
 -- and the notes are as they were.

@@ -1,4 +1,4 @@
-ghost use Rattle.std.specs.Prelude.{◌≡◌, ◌+◌, ◌≤◌, ◌<◌, ◌++◌, ℕ, List, OnErr, OnOk, Some, bytes_eq, false, length, replicate, slice_set};
+ghost use Rattle.std.specs.Prelude.{◌≡◌, ◌+◌, ◌≤◌, ◌<◌, ◌++◌, ℕ, List, IfOk, OnErr, OnOk, Some, bytes_eq, false, length, replicate, slice_set};
 ghost use Rattle.std.specs.List.{All, IsDistinct, position_or_len};
 ghost use Rattle.spec_script.specs.declared.cells.Seen.TheVariants.{Absent};
 ghost use Rattle.spec_run.specs.declared.leaf.Instance.{Instance as Held};
@@ -16,17 +16,18 @@ ghost use Rattle.run_arena.specs.Nodes.{kept_at, leaf_at};
 ghost use Rattle.run_arena.specs.Rosters.{IsServed};
 ghost use Rattle.run_arena.specs.Sources.{IsSourceOf};
 ghost use Rattle.run_arena.specs.Stages.{IsSame, MeetsOn, scene_on};
-ghost use Rattle.run_nodes.specs.Calls.{CallableOn, IsInPhase, WasAsked, answer_on, answer_to, as_given, board_left, mark_left};
-ghost use Rattle.run_nodes.specs.Calls.{leaf_written, number_written, outputs_written, seen_inputs, told_written, value_written};
+ghost use Rattle.run_nodes.specs.Calls.{CallableOn, IsInPhase, IsReadied, WasAsked, answer_on, answer_to, as_given, board_left, mark_left};
+ghost use Rattle.run_nodes.specs.Calls.{leaf_written, number_written, outputs_written, seen_inputs, told_written, value_written, values_held};
 ghost use Rattle.run_nodes.specs.Here.{FitsHereOn, call_on, in_stop};
 
-use crate::sources::seen_of;
-use base_texts::{Name, Stop};
+use crate::sources::{seen_of, value_of};
+use base_texts::{Items, Name, NoMemory, Stop};
 use run_arena::{Kept, Notes, ReadyLeaf, Source, Stage, set_held};
 use run_driver::{Call, CallPhase, Drivers, Inputs, Outs, ReadySort};
 use spec_run::{Answer, NodeFault, Note, Reply, Status};
 use spec_script::{Cells, Seen, Value};
 use spec_world::ToldOut;
+use std::alloc::Global;
 use tree_board::Board;
 
 /// The inputs that a driver sees of a leaf without inputs.
@@ -44,6 +45,25 @@ fn see_inputs(sources: &[Source], board: &Board, inputs: &mut Inputs)
     for (place, source) in sources.iter().enumerate() {
         inputs[place] = seen_of(source, board);
     }
+}
+
+/// Copies what these inputs hold. The error is want of memory.
+fn copy_inputs(
+    alloc: Global,
+    sources: &[Source],
+    board: &Board,
+) -> Result<Items<Option<Value>>, NoMemory>
+    requires { All (IsSourceOf (length board.now)) sources.now }
+    ensures { IfOk result (λ inputs. inputs ≡ values_held board.now sources.now) }
+{
+    let mut inputs = Vec::with_capacity(alloc, sources.len())?;
+    for source in sources {
+        inputs.push(match value_of(source, board) {
+            Some(value) => Some(value.copy(alloc)?),
+            None => None,
+        })?;
+    }
+    Ok(Items::of(inputs))
 }
 
 /// Writes a number where a slot is given.
@@ -218,6 +238,50 @@ fn call_with_inputs<D: Drivers>(
     call_driver(stage, leaf, status, &inputs, outs)
 }
 
+/// Lets the driver of a leaf of this status with inputs keep what they hold, where the leaf is told what it answers and is
+/// to begin. It is not inlined since most leaves have none. The error is want of memory: then nothing has changed.
+#[inline(never)]
+fn keep_start<D: Drivers>(
+    stage: &mut Stage<D>,
+    leaf: &ReadyLeaf,
+    status: Status,
+) -> Result<(), NoMemory>
+    requires callable { CallableOn D.states stage.old status leaf.now }
+    requires inputs { 0 < length leaf.now.inputs }
+    ensures ok { OnOk result (IsReadied D.states status leaf.now stage.old stage.new) }
+    ensures err { OnErr result (stage.new ≡ stage.old) }
+{
+    match (status, &leaf.row.get().sort) {
+        (Status::Running, _) => Ok(()),
+        (_, ReadySort::Sensed | ReadySort::Told { .. }) => {
+            let inputs = copy_inputs(stage.alloc, leaf.inputs.list(), stage.board)?;
+            stage
+                .drivers
+                .keep_inputs(leaf.driver, leaf.instance, inputs);
+            Ok(())
+        }
+        _ => Ok(()),
+    }
+}
+
+/// Lets the driver of a leaf of this status keep the inputs of a start where it is to. The error is want of memory: then
+/// nothing has changed.
+#[inline(always)]
+fn keep_inputs<D: Drivers>(
+    stage: &mut Stage<D>,
+    leaf: &ReadyLeaf,
+    status: Status,
+) -> Result<(), NoMemory>
+    requires { CallableOn D.states stage.old status leaf.now }
+    ensures ok { OnOk result (IsReadied D.states status leaf.now stage.old stage.new) }
+    ensures err { OnErr result (stage.new ≡ stage.old) }
+{
+    match leaf.inputs.list() {
+        [] => Ok(()),
+        _ => keep_start(stage, leaf, status),
+    }
+}
+
 /// Writes the outputs of a call whose reply was SUCCESS.
 #[inline(always)]
 fn write_answer(reply: Reply, leaf: &ReadyLeaf, outs: &mut Outs, board: &mut Board)
@@ -313,8 +377,8 @@ fn tell(
 
 /// Calls the driver of the leaf with this uid, with its inputs: to go on where it is RUNNING, else to
 /// begin. On SUCCESS its outputs are written. The place of the note is reserved before the call,
-/// so that each call that was made has its note. The error is the leaf's fault, or want of memory,
-/// which comes before the call.
+/// so that each call that was made has its note, and so are the inputs that its driver is to keep.
+/// The error is the leaf's fault, or want of memory, which comes before the call.
 #[inline(always)]
 pub fn leaf_call<D: Drivers>(
     stage: &mut Stage<D>,
@@ -334,6 +398,7 @@ pub fn leaf_call<D: Drivers>(
 {
     stage.notes.room()?;
     let status = stage.kept[uid as usize].status;
+    keep_inputs(stage, leaf, status)?;
     let reply = make_call(stage, leaf, status);
     mark(reply, uid, stage.kept);
     tell(reply, status, uid, stage.notes)

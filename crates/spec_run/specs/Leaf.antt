@@ -151,33 +151,48 @@ rule_of names row = rule_by (place_of row.ports names) row
 
 -- ---- Instances
 
--- an instance that was never held, and was told nothing
+-- an instance that was never held or started, and was told nothing
 abbrev pub fresh : Instance
-fresh = record { since = None; completions = 0; told = None }
+fresh = record { since = None; completions = 0; told = None; inputs = [] }
 
 -- an instance that is held since a moment
 abbrev pub held : ℕ → Instance → Instance
-held since instance = record { since = Some since; completions = instance.completions; told = instance.told }
+held since instance = record instance { since = Some since }
 
 -- an instance that is no longer held, and is told nothing; its completions stay
 abbrev pub released : Instance → Instance
-released instance = record { since = None; completions = instance.completions; told = None }
+released instance = record instance { since = None; told = None }
 
 -- an instance that is not held, and keeps what it was told
 abbrev pub unheld : Instance → Instance
-unheld instance = record { since = None; completions = instance.completions; told = instance.told }
+unheld instance = record instance { since = None }
 
 -- an instance after a quench: one that was held is released, and any other stays as it is
 abbrev pub let_go : Instance → Instance
-let_go instance = record { since = None; completions = instance.completions; told = if is_some instance.since then None else instance.told }
+let_go instance = record instance { since = None; told = if is_some instance.since then None else instance.told }
 
 -- an instance that has completed once more; completions are counted up to 64
 abbrev pub completed : Instance → Instance
-completed instance = record { since = None; completions = min (instance.completions + 1) 64; told = None }
+completed instance = record instance { since = None; completions = min (instance.completions + 1) 64; told = None }
 
 -- an instance that is told something, in place of what it was told before
 abbrev pub told : Telling → Instance → Instance
-told telling instance = record { since = instance.since; completions = instance.completions; told = Some telling }
+told telling instance = record instance { told = Some telling }
+
+-- an instance that keeps these values of its input ports
+abbrev pub keeping : List (Option Value) → Instance → Instance
+keeping inputs instance = record instance { inputs = inputs }
+
+-- an instance that is started with these inputs, which it keeps; one without input ports stays as it is
+abbrev pub started_with : List (Option Value) → Instance → Instance
+started_with [] instance = instance
+started_with inputs instance = keeping inputs instance
+
+-- an instance of a leaf that is to be called: one that is told what it answers keeps the inputs of its start
+abbrev pub asked : Way → Phase → List (Option Value) → Instance → Instance
+asked Heeds phase.Start inputs instance = started_with inputs instance
+asked Obeys phase.Start inputs instance = started_with inputs instance
+asked _ _ inputs instance = instance
 
 -- the moment of the start: this one, or the one since which the instance is held
 abbrev pub start_of : Phase → Instance → ℕ → ℕ

@@ -27,7 +27,7 @@ use Rattle.spec_world.specs.declared.world.Row.{Row}
 use Rattle.spec_world.specs.declared.world.ToldOut.{ToldOut}
 use Rattle.spec_world.specs.Worlds.{outs_told}
 use Rattle.spec_run.specs.Done.{Done, State, done, follow}
-use Rattle.spec_run.specs.Leaf.{Answered, fresh, leaf_rule}
+use Rattle.spec_run.specs.Leaf.{Answered, asked, fresh, leaf_rule, rule_of}
 use Rattle.spec_run.specs.Ports.{given_at, value_at}
 use Rattle.spec_run.specs.NodeScripts.{fault_of_node, script_holds, script_run}
 use Rattle.spec_run.specs.Sites.{Site, slot_at}
@@ -54,8 +54,16 @@ sight (Some (Text t)) = seen.Text
 sight None = seen.Absent
 
 -- the inputs of a row: what its ports hold at the node
+abbrev pub values_of : Site → State → Row → List (Option Value)
+values_of site s row = map (λ name. value_at site s name) row.ports
+
+-- what its driver sees of them
 abbrev pub inputs_of : Site → State → Row → List Seen
 inputs_of site s row = map (λ name. sight (value_at site s name)) row.ports
+
+-- the instance of a leaf that is called so
+abbrev pub instance_asked : Site → Row → Phase → State → Instance
+instance_asked site row phase s = asked (rule_of site.view.facts row).way phase (values_of site s row) (instance_at s site.uid)
 
 -- a driver is called to go on where the leaf is RUNNING, and else to begin
 abbrev pub phase_of : Status → Phase
@@ -120,10 +128,14 @@ replied site row phase ms s a = record {
   calls = record { uid = site.uid; phase = phase; left = a.instance } ∷ [];
 }
 
+-- what a call of the driver of a leaf with this status leaves of what the driver keeps and changes
+abbrev pub leaf_answered : Site → Row → Status → State → Answered
+leaf_answered site row old s =
+    leaf_rule site.view.facts row (phase_of old) (instance_asked site row (phase_of old) s) (inputs_of site s row) s.facts s.moment
+
 -- one call of the driver of a leaf with this status; a leaf without a row, which no run has, is not called
 abbrev pub leaf_call : Option Row → Site → Status → List Memory → State → Done Given (List Memory)
-leaf_call (Some row) site old ms s =
-    replied site row (phase_of old) ms s (leaf_rule site.view.facts row (phase_of old) (instance_at s site.uid) (inputs_of site s row) s.facts s.moment)
+leaf_call (Some row) site old ms s = replied site row (phase_of old) ms s (leaf_answered site row old s)
 leaf_call None site old ms s = gives Skipped ms s
 
 -- ---- Script nodes

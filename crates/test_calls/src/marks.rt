@@ -1,12 +1,13 @@
 //! When the calls of a run are made.
 
 use base_outside::{MemSink, Sink, SinkFault};
-use base_texts::NoMemory;
+use base_texts::{Items, NoMemory};
 use cli_program::add_driver;
 use run_driver::{Call, CallPhase, Driver, FactTable, Outs};
 use run_leaves::{Conditions, Timed, Told};
 use spec_program::Exit;
 use spec_run::{DriverKind, Reply, Totals};
+use spec_script::Value;
 use spec_world::Telling;
 use std::alloc::{AllocError, Global};
 use std::cell::Cell;
@@ -77,6 +78,10 @@ impl<D: Driver> Driver for Marked<D> {
         self.driver.held()
     }
 
+    fn inputs(&self, instance: u32) -> &[Option<Value>] {
+        self.driver.inputs(instance)
+    }
+
     fn prepare(&mut self, count: u32) -> Result<(), NoMemory> {
         self.driver.prepare(count)
     }
@@ -97,6 +102,10 @@ impl<D: Driver> Driver for Marked<D> {
     fn tell(&mut self, instance: u32, telling: Telling) {
         self.marks.mark(self.told);
         self.driver.tell(instance, telling)
+    }
+
+    fn keep_inputs(&mut self, instance: u32, inputs: Items<Option<Value>>) {
+        self.driver.keep_inputs(instance, inputs)
     }
 }
 
