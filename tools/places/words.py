@@ -9,18 +9,25 @@ from .values import number
 
 @dataclass(frozen=True)
 class Form:
-    """A command: what stands after its word, which options it takes and needs, and the ranges of its numbers."""
+    """A command: what stands after its word, and what may stand there too; which options it takes and needs, and the ranges of
+    its numbers."""
 
     operands: Tuple[str, ...]
     options: Tuple[str, ...] = ()
     needed: Tuple[str, ...] = ()
     ranges: Dict[str, Tuple[int, int]] = field(default_factory=dict)
+    more: Tuple[str, ...] = ()
+
+    def named(self, rest: List[str]) -> Tuple[str, ...]:
+        """What the words after the command name, before the first option."""
+        count = len(self.operands)
+        return self.operands + (self.more if rest[count:] and rest[count] not in self.options else ())
 
     def usage(self, name: str) -> str:
         """The command as a line."""
         options = [f"{option} {VALUES[option]}" if option in self.needed else f"[{option} {VALUES[option]}]"
                    for option in self.options]
-        return " ".join(["bt", name, *self.operands, *options])
+        return " ".join(["bt", name, *self.operands, *(f"[{it}]" for it in self.more), *options])
 
 
 VALUES = {"--main": "ID", "--ticks": "N", "--expand": "N", "--period": "MS"}
@@ -33,6 +40,7 @@ COMMANDS: Dict[str, Form] = {
     "live": Form(("TREE", "WORLD"), ("--ticks", "--main"), ("--ticks",), {"--ticks": (1, 100_000)}),
     "check": Form(("TREE",), ("--main",)),
     "dead": Form(("TREE",), ("--main",)),
+    "serve": Form(("TREE",), ("--main",), more=("WORLD",)),
     "load": Form(("N",), ranges={"N": (1, 1_000)}),
     "plan": PLANNING,
     "mock": Form(("TREE", "WORLD", "RULES"), ("--main",)),
@@ -56,7 +64,7 @@ def command_of(words: List[str]) -> Optional[Command]:
     """The command that the words are, if they are one."""
     if not words or words[0] not in COMMANDS or wrong(words) is not None:
         return None
-    operands = dict(zip(COMMANDS[words[0]].operands, words[1:]))
+    operands = dict(zip(COMMANDS[words[0]].named(words[1:]), words[1:]))
     options = words[1 + len(operands):]
     main = next((value for name, value in zip(options[::2], options[1::2]) if name == "--main"), None)
     return Command(words[0], operands.get("TREE"), operands.get("WORLD"), operands.get("RULES"), main)
@@ -78,7 +86,7 @@ def wrong(words: List[str]) -> Optional[str]:
         return f"{words[0]}: {form.operands[len(rest)]} is missing"
     if form.operands == ("N",) and not in_range(form, "N", rest[0]):
         return out_of_range(words[0], form, "N", rest[0])
-    return wrong_options(words[0], form, rest[len(form.operands):])
+    return wrong_options(words[0], form, rest[len(form.named(rest)):])
 
 
 def wrong_options(name: str, form: Form, rest: List[str]) -> Optional[str]:
