@@ -90,4 +90,12 @@ impl Sink for MemSink {
             }
         }
     }
+
+    /// All is here as soon as it is written.
+    fn flush(&mut self) -> Result<(), SinkFault>
+        ensures kept { self.new ≡ self.old }
+        ensures sure { ¬ IsErrOf result SinkFault.Failed }
+    {
+        Ok(())
+    }
 }

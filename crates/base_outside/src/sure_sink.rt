@@ -54,4 +54,12 @@ impl Sink for SureSink {
             .extend_from_slice(piece)
             .map_err(|_| SinkFault::NoMemory)
     }
+
+    /// All is here as soon as it is written.
+    fn flush(&mut self) -> Result<(), SinkFault>
+        ensures kept { self.new ≡ self.old }
+        ensures sure { ¬ IsErrOf result SinkFault.Failed }
+    {
+        Ok(())
+    }
 }

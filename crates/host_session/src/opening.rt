@@ -133,6 +133,16 @@ fn open_world(alloc: Global, tree: Tree, world: &[u8]) -> Result<Session, Stop<O
 }
 
 impl Session {
+    /// Opens the session of a tree in a world, before the first event; the fault is what is missing.
+    pub fn of(alloc: Global, tree: Tree, world: World) -> Result<Session, Stop<JoinFault>>
+        requires tree { IsRunnable tree }
+        requires world { IsValidWorld world }
+        ensures lack { Joins result (lack_of tree world new_drivers) }
+        ensures opened { IfOk result (λ session. session ≡ opened tree world) }
+    {
+        join(alloc, tree, world)
+    }
+
     /// Opens the session of the tree of these bytes of a tree file in the world of these bytes of a world script, before
     /// the first event. `main` asks for a main tree. The world's own events are not made: `own_event` makes the next.
     pub fn open(

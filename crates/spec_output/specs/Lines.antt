@@ -162,7 +162,10 @@ abbrev pub entry_line : LineNames → ℕ × ℕ × Value → List ℕ
 entry_line names entry =
     codes "board " ++ decimal entry.0 ++ codes " " ++ cell_words (cell_at names entry.1) ++ codes " " ++ value_words entry.2 ++ codes "\n"
 
--- the lines of a block: its event, what happened in order, and the facts and the entries that changed
+-- the lines of the facts and the entries that changed
+abbrev pub change_lines : LineNames → Block → List (List ℕ)
+change_lines names block = map (fact_line names) block.facts ++ map (entry_line names) block.entries
+
+-- the lines of a block: its event, what happened in order, and what changed
 abbrev pub lines_of : LineNames → Block → List (List ℕ)
-lines_of names block =
-    header_line names block.header ∷ (map (note_line names) block.notes ++ map (fact_line names) block.facts ++ map (entry_line names) block.entries)
+lines_of names block = header_line names block.header ∷ (map (note_line names) block.notes ++ change_lines names block)

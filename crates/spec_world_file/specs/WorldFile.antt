@@ -653,6 +653,10 @@ AfterContent r text said = MatchBool (is_ignored text) (said ≡ Ok r) (AfterFor
 abbrev pub AfterText : Reading → List ℕ → Result Reading WorldKind → Type 0
 AfterText r text said = AfterContent r (content text) said
 
+-- what lines of a host are read after: the facts and the moment that were read, and as many runners as there may be
+abbrev pub for_host : Reading → Reading
+for_host r = record nothing_read { facts = r.facts; runners = Some most_runners; moment = r.moment }
+
 -- ---- The world of a file
 
 -- the lines after one are read, or it is the first faulty one

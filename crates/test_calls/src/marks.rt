@@ -132,6 +132,10 @@ impl<K: Sink> Sink for MarkedSink<K> {
         }
         self.sink.write(piece)
     }
+
+    fn flush(&mut self) -> Result<(), SinkFault> {
+        self.sink.flush()
+    }
 }
 
 /// Marks what a run does: `C` where a condition begins, `T`, `t` and `h` where a timed action begins,

@@ -72,6 +72,24 @@ impl Facts {
         add(alloc, &mut self.map, name.list(), fact)
     }
 
+    /// The same facts.
+    pub fn copy(&self, alloc: Global) -> Result<Facts, NoMemory>
+        ensures { IfOk result (λ facts. facts ≡ self.now) }
+    {
+        let mut facts = Facts::new(alloc);
+        for fact in self.map.values() {
+            let name = fact.name.copy(alloc)?;
+            facts.add(
+                alloc,
+                Fact {
+                    name,
+                    opening: fact.opening,
+                },
+            )?;
+        }
+        Ok(facts)
+    }
+
     /// The facts in the order of their numbers.
     pub fn into_items(self, alloc: Global) -> Result<Vec<Fact>, NoMemory>
         ensures { IfOk result (λ facts. facts.items ≡ self) }

@@ -60,6 +60,34 @@ fn world_following(alloc: Global, lines: &[&[u8]]) -> Result<World, Stop<WorldFa
     }
 }
 
+/// The world that a world script describes, and what the lines of a host are read after; or its first faulty line. The
+/// world is valid.
+pub fn read_script(alloc: Global, bytes: &[u8]) -> Result<(World, Reading), Stop<WorldFault>>
+    requires { length bytes.now ≤ 1048576 }
+{
+    let parts = parts(alloc, bytes, b'\n')?;
+    script_of(alloc, without_rest(parts.as_slice()))
+}
+
+/// The world of the lines of a file, and what the lines of a host are read after.
+fn script_of(alloc: Global, lines: &[&[u8]]) -> Result<(World, Reading), Stop<WorldFault>>
+    requires { length lines.now ≤ 1048577 }
+{
+    match lines {
+        [first, rest @ ..] if is(trimmed(first), "bt-world 1") => {
+            let mut reading = Reading::new(alloc);
+            read_lines(alloc, &mut reading, rest)?;
+            reading.close(alloc)?;
+            let after = reading.for_host(alloc)?;
+            Ok((reading.into_world(alloc)?, after))
+        }
+        _ => Err(Stop::Fault(WorldFault {
+            line: 1,
+            kind: WorldKind::Header,
+        })),
+    }
+}
+
 /// What is wrong with a line, with its number.
 fn located(stop: Stop<WorldKind>, line: u32) -> Stop<WorldFault>
     ensures { result ≡ readings.located stop line }

@@ -1,0 +1,5 @@
+pub mod Inputs
+pub mod Refusals
+pub mod Requests
+pub mod Rows
+pub mod Talks
