@@ -133,8 +133,8 @@ def an_interrupted_host_stops_its_robot(folder):
 robot = Robot({str(tree)!r}, engine=[{Bed.program!r}], record={str(folder / "record")!r}, trace={str(folder / "trace")!r})
 @robot.action("A")
 def a():
-    print("starts", flush=True)
     try:
+        print("starts", flush=True)
         while True:
             yield
     finally:
