@@ -16,6 +16,7 @@ use Rattle.spec_world.specs.declared.world.Row.{Row}
 use Rattle.spec_world.specs.declared.world.RowSort.{RowSort}
 use Rattle.spec_world.specs.declared.world.RowSort.TheVariants.{Sensed, Told}
 use Rattle.spec_world.specs.declared.world.World.{World}
+use Rattle.spec_world.specs.Worlds.{outs_told}
 use Rattle.spec_world_file.specs.declared.world_fault.WorldFault.{WorldFault}
 use Rattle.spec_world_file.specs.declared.world_fault.WorldKind.TheVariants.{TooMany}
 
@@ -121,14 +122,9 @@ row_by None root term id =
 abbrev pub told_rows : Element → Term → List Row
 told_rows root term = map (λ id. row_by (model_of id (model_elements (children_of root))) root term id) (each_once [] (leaf_ids term))
 
--- the outputs of a row that is told
-abbrev pub outputs_of : RowSort → List (List ℕ)
-outputs_of (Told outputs) = outputs
-outputs_of _ = []
-
 -- whether a row is within the limits
 abbrev pub is_small_row : Row → Bool
-is_small_row row = nat_le (length row.ports) most_ports && nat_le (length (outputs_of row.sort)) most_outputs
+is_small_row row = nat_le (length row.ports) most_ports && nat_le (length (outs_told row.sort)) most_outputs
 
 -- the world of these rows, if they are within the limits; no line of a file is at fault
 abbrev pub world_of : List Row → Result World WorldFault

@@ -1,0 +1,5 @@
+pub mod Asking
+pub mod Ends
+pub mod Rows
+pub mod Serving
+pub mod Starts
