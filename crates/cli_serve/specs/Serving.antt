@@ -13,7 +13,7 @@ use Rattle.spec_program.specs.declared.exit.Exit.TheVariants as exit
 use Rattle.spec_serve.specs.declared.request_fault.RequestFault.TheVariants as request
 use Rattle.spec_serve.specs.Inputs.{told_lines}
 use Rattle.spec_serve.specs.Refusals.{misused}
-use Rattle.spec_serve.specs.Talks.{Heard, Said, nothing_heard, refuse}
+use Rattle.spec_serve.specs.Talks.{Heard, Said, faulted, nothing_heard, refuse}
 use Rattle.spec_session.specs.declared.ended.Ended.{Ended}
 use Rattle.spec_session.specs.declared.ended.Ended.TheVariants as ended
 use Rattle.spec_session.specs.Labels.{labels}
@@ -22,12 +22,15 @@ use Rattle.spec_world.specs.declared.world.Event.{Event}
 use Rattle.text_lines.specs.declared.stop.TextStop.{TextStop}
 use Rattle.text_lines.specs.declared.stop.TextStop.TheVariants as stop
 
--- what holds between two lines: the session takes events, the names are its own, each uid has a place, and no event that
--- was read is left
-pub record IsReady (s : Serving) : Type 0 where
+-- what holds as long as events are taken: the names are those of the session, and each uid has a place
+pub record CanGoOn (s : Serving) : Type 0 where
   pub usable : s.session.usable ≡ true
   pub names : s.names ≡ line_names s.session.tree s.session.world
   pub places : length (labels s.session.tree) < length s.starts.places.items
+
+-- what holds between two lines: besides, no event that was read is left
+pub record IsReady (s : Serving) : Type 0 where
+  pub goes_on : CanGoOn s
   pub events : s.reading.events ≡ []
 
 -- ---- What is written
@@ -114,6 +117,23 @@ abbrev pub HasEnded : Over → ℕ → Sitting → Exit → Out → Out → Type
 HasEnded over.Faulted number s result old new = (result ≡ exit.Fault) × (new ≡ old)
 HasEnded (over.Refused fault) number s result old new = HasSaid (refuse fault number s) result old new
 HasEnded (over.Stopped stop) number s result old new = (result ≡ stopped_exit stop) × (new ≡ old)
+
+-- what holds where no line is read any more: where one is refused, the runners can be finished
+abbrev pub CanEnd : Over → Serving → Type 0
+CanEnd (over.Refused fault) s = CanGoOn s
+CanEnd _ s = Unit {0}
+
+-- what holds after a call by its answer: the next line can be read, or none is
+abbrev pub IsLeft : {A : Type 0} → Result A Over → Serving → Type 0
+IsLeft (Ok a) s = IsReady s
+IsLeft (Err over) s = CanEnd over s
+
+-- the finish of the runners has come to no end, by which it would have been this with this exit: it ended in a fault, or no
+-- more was written
+abbrev pub FinishOver : Over → Said → Exit → Out → Out → Type 0
+FinishOver over.Faulted said exit old new = (said.exit ≡ faulted exit) × Wrote said.lines old new
+FinishOver (over.Refused fault) said exit old new = ⊥
+FinishOver (over.Stopped stop) said exit old new = WroteFirst stop said.lines old new
 
 -- ---- The input
 

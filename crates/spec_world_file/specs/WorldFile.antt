@@ -711,8 +711,12 @@ AllAfter [] after = after ≡ Err (record { line = 1; kind = Header })
 AllAfter (first ∷ rest) after =
     MatchBool (bytes_eq (without_return first) (codes "bt-world 1")) (AfterLines 2 rest nothing_read after) (after ≡ Err (record { line = 1; kind = Header }))
 
--- the bytes of a file read as this world, and lines of a host are read after this; or they have this first faulty line
-pub record ReadsScript (bytes : List ℕ) (said : Result (World × Reading) WorldFault) : Type 0 where
+-- the lines of a file read as this world, and lines of a host are read after this; or one is the first faulty line
+pub record ScriptReads (texts : List (List ℕ)) (said : Result (World × Reading) WorldFault) : Type 0 where
   pub after : Result Reading WorldFault
-  pub lines : AllAfter (lines_in bytes) after
+  pub lines : AllAfter texts after
   pub is : said ≡ script_after after
+
+-- .. those of these bytes
+abbrev pub ReadsScript : List ℕ → Result (World × Reading) WorldFault → Type 0
+ReadsScript bytes said = ScriptReads (lines_in bytes) said
