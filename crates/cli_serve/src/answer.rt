@@ -1,4 +1,4 @@
-ghost use Rattle.std.specs.Prelude.{◌≡◌, ◌≤◌, ◌<◌, ◌+◌, IfOk, IsErrOf, OnOk, length};
+ghost use Rattle.std.specs.Prelude.{◌≡◌, ◌≤◌, ◌<◌, ◌+◌, ◌++◌, IfOk, IsErrOf, OnOk, length};
 ghost use Rattle.std.specs.List.{concat};
 ghost use Rattle.run_arena.specs.Blocks.{seen};
 ghost use Rattle.spec_outside.specs.Appending.{Appended, AppendedPrefix};

@@ -1,4 +1,4 @@
-ghost use Rattle.std.specs.Prelude.{◌≡◌, ◌≤◌, ◌⊎◌, ◌<◌, ◌+◌, ℕ, List, [], ◌∷◌, Err, IfErr, IfOk, Ok, OnOk, length, true};
+ghost use Rattle.std.specs.Prelude.{◌≡◌, ◌≤◌, ◌⊎◌, ◌<◌, ◌+◌, ℕ, List, [], ◌∷◌, Err, IfErr, IfOk, Ok, OnOk, false, length, true};
 ghost use Rattle.spec_outside.specs.Counts.{Rose};
 ghost use Rattle.spec_output.specs.Lines.{line_names};
 ghost use Rattle.spec_session.specs.Labels.{labels};
@@ -358,7 +358,7 @@ impl Serving {
     /// Ends where no line is read any more, for this reason, at the line of this number.
     fn ended<K: Sink>(&mut self, over: Over, number: u64, out: &mut K) -> Exit
         requires ready { CanEnd over self.old }
-        ensures { HasEnded over number self.old.session result
+        ensures says { HasEnded over number self.old.session result
             (sink (K.written out.old) (K.handed out.old) (K.faults out.old))
             (sink (K.written out.new) (K.handed out.new) (K.faults out.new)) }
         ensures count { K.faults out.old ≤ K.faults out.new }
