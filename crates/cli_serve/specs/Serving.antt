@@ -1,5 +1,5 @@
 -- What a session that is served keeps, and what a call of it has said.
-use Rattle.std.specs.Prelude.{◌≡◌, ◌<◌, ◌⊎◌, ◌++◌, ℕ, List, [], ◌∷◌, length, true, Option, Some, None, Result, Ok, Err}
+use Rattle.std.specs.Prelude.{◌≡◌, ◌<◌, ◌++◌, ℕ, List, [], length, true, Option, Some, None, Result, Ok, Err}
 use Rattle.std.specs.List.{concat}
 use Rattle.cli_serve.specs.declared.over.Over.{Over}
 use Rattle.cli_serve.specs.declared.over.Over.TheVariants as over

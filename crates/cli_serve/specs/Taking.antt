@@ -1,5 +1,5 @@
 -- What is taken of an input, and what it asks.
-use Rattle.std.specs.Prelude.{◌≡◌, ◌⊎◌, ◌<◌, ℕ, nat_lt, List, MatchBool, Option, Some, None, Result, Ok, Err}
+use Rattle.std.specs.Prelude.{◌≡◌, ◌⊎◌, ℕ, nat_lt, List, MatchBool, Option, Some, None, Result, Ok, Err}
 use Rattle.cli_serve.specs.declared.over.Over.{Over}
 use Rattle.cli_serve.specs.declared.over.Over.TheVariants as over
 use Rattle.cli_serve.specs.Serving.{TookLine}
@@ -11,7 +11,6 @@ use Rattle.spec_serve.specs.declared.request.Request.TheVariants.{Finish}
 use Rattle.spec_serve.specs.declared.request_fault.RequestFault.TheVariants as request
 use Rattle.spec_serve.specs.Requests.{RequestReads}
 use Rattle.spec_serve.specs.Talks.{last_line}
-use Rattle.spec_world_file.specs.declared.world_fault.WorldKind.{WorldKind}
 use Rattle.spec_world_file.specs.WorldFile.{Reading}
 use Rattle.text_lines.specs.declared.stop.TextStop.TheVariants as stop
 
