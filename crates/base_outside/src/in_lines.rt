@@ -1,5 +1,6 @@
 ghost use Rattle.std.specs.Prelude.{◌≡◌, ◌≤◌, IfOk, IsErrOf};
 ghost use Rattle.std.specs.Io.BufRead.{take_through};
+ghost use Rattle.base_outside.specs.InLines.{IsLine};
 ghost use Rattle.spec_outside.specs.Counts.{Rose};
 ghost use Rattle.spec_outside.specs.Lines.{TakesNext, most_line_bytes};
 
@@ -44,7 +45,10 @@ impl<R: Read + Drop> InLines<R> {
 }
 
 /// What the bytes that were read up to a line feed are: a line, which is then without its line feed, or the end.
-fn line_of(room: &mut Vec<u8>) -> Result<bool, LineFault> {
+fn line_of(room: &mut Vec<u8>) -> Result<bool, LineFault>
+    ensures line { IsLine room.old.items result room.new.items }
+    ensures read { ¬ IsErrOf result LineFault.Failed }
+{
     match room.last() {
         None => Ok(false),
         Some(b'\n') => {

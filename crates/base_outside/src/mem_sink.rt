@@ -66,6 +66,8 @@ impl Sink for MemSink {
 
     ghost written = { λ s. Some s.written };
 
+    ghost handed = { λ s. Some s.written };
+
     ghost faults = { λ s. s.faults };
 
     fn write(&mut self, piece: &[u8]) -> Result<(), SinkFault>

@@ -128,6 +128,8 @@ impl<W: Write + Drop> Sink for OutSink<W> {
 
     ghost written = { written_by };
 
+    ghost handed = { λ s. s.told };
+
     ghost faults = { λ s. s.faults };
 
     /// Writes the piece. Most pieces have room beside what is gathered, and are taken at once.
@@ -158,6 +160,7 @@ impl<W: Write + Drop> Sink for OutSink<W> {
         ensures kept { Keeps (written_so_far self.old) (written_so_far self.new) }
         ensures failed { IsErrOf result SinkFault.Failed → Rose self.old.faults self.new.faults }
         ensures count { self.old.faults ≤ self.new.faults }
+        ensures handed { OnOk result (self.new.told ≡ written_so_far self.new) }
 
         ensures whole { OnOk result (self.new.gathered ≡ []) }
         ensures raised { IsErrOf result SinkFault.Failed → self.new.faults ≡ next self.old.faults }

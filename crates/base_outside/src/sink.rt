@@ -1,4 +1,4 @@
-ghost use Rattle.std.specs.Prelude.{◌≤◌, ℕ, List, Option, OnOk, IsErrOf};
+ghost use Rattle.std.specs.Prelude.{◌≡◌, ◌≤◌, ℕ, List, Option, OnOk, IsErrOf};
 ghost use Rattle.std.specs.Io.KnownBytes.{Keeps};
 ghost use Rattle.spec_outside.specs.Appending.{Appended, AppendedPrefix};
 ghost use Rattle.spec_outside.specs.Counts.{Rose};
@@ -17,6 +17,9 @@ pub trait Sink {
     /// The bytes written so far, where the sink tells them.
     ghost written: { Self → Option (List ℕ) };
 
+    /// The bytes that were handed on to whoever reads them, where the sink tells them.
+    ghost handed: { Self → Option (List ℕ) };
+
     /// The count of failures. It never falls.
     ghost faults: { Self → ℕ };
 
@@ -28,10 +31,11 @@ pub trait Sink {
         ensures failed { IsErrOf result SinkFault.Failed → Rose (faults self.old) (faults self.new) }
         ensures count { faults self.old ≤ faults self.new };
 
-    /// Hands on what was written to whoever reads it, and writes nothing. `SinkFault::Failed` comes only where the
+    /// Hands on all that was written to whoever reads it, and writes nothing. `SinkFault::Failed` comes only where the
     /// count of failures rose in this call.
     fn flush(&mut self) -> Result<(), SinkFault>
         ensures kept { Keeps (written self.old) (written self.new) }
+        ensures handed { OnOk result (handed self.new ≡ written self.new) }
         ensures failed { IsErrOf result SinkFault.Failed → Rose (faults self.old) (faults self.new) }
         ensures count { faults self.old ≤ faults self.new };
 }

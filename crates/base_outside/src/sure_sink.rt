@@ -42,6 +42,8 @@ impl Sink for SureSink {
 
     ghost written = { λ bytes. Some bytes };
 
+    ghost handed = { λ bytes. Some bytes };
+
     ghost faults = { λ _. 0 };
 
     fn write(&mut self, piece: &[u8]) -> Result<(), SinkFault>

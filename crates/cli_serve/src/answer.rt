@@ -1,5 +1,15 @@
+ghost use Rattle.std.specs.Prelude.{◌≡◌, ◌≤◌, ◌<◌, ◌+◌, ◌++◌, IfOk, IsErrOf, OnOk, length};
+ghost use Rattle.std.specs.List.{concat};
+ghost use Rattle.run_arena.specs.Blocks.{seen};
+ghost use Rattle.spec_outside.specs.Appending.{Appended, AppendedPrefix};
+ghost use Rattle.spec_outside.specs.Counts.{Rose};
+ghost use Rattle.spec_output.specs.Lines.{node_inputs};
+ghost use Rattle.spec_serve.specs.Inputs.{input_line, input_lines, kept_inputs, runner_of, told_lines, told_notes};
+ghost use Rattle.spec_session.specs.Labels.{labels};
+ghost use Rattle.cli_serve.specs.Starts.{KnowsLast, is_at};
+
 use base_outside::Sink;
-use base_texts::NoMemory;
+use base_texts::{Name, NoMemory};
 use host_session::Session;
 use run_arena::Block;
 use spec_run::{Header, Note};
@@ -18,35 +28,48 @@ pub struct Starts {
 }
 
 impl Starts {
-    /// Room for so many nodes.
-    pub fn new(alloc: Global, nodes: usize) -> Result<Starts, NoMemory> {
-        let mut places = Vec::with_capacity(alloc, nodes + 1)?;
-        for _ in 0..nodes + 1 {
+    /// Room for the uids of so many nodes, which begin at 1.
+    pub fn new(alloc: Global, nodes: usize) -> Result<Starts, NoMemory>
+        ensures { IfOk result (λ starts. length starts.places.items ≡ 1 + nodes) }
+    {
+        let mut places = Vec::new(alloc);
+        places.push(0)?;
+        for _ in 0..nodes {
             places.push(0)?;
         }
         Ok(Starts { places })
     }
 
     /// Takes the places of the starts in these notes.
-    fn find(&mut self, notes: &[Note]) {
+    fn find(&mut self, notes: &[Note])
+        ensures room { length self.new.places.items ≡ length self.old.places.items }
+        ensures knows { KnowsLast self.new.places.items notes.now }
+    {
         for (place, note) in notes.iter().enumerate() {
             if let Note::Started { uid, .. } = note {
-                self.places[*uid as usize] = place;
+                if let Some(kept) = self.places.get_mut(*uid as usize) {
+                    *kept = place;
+                }
             }
         }
     }
 
-    /// The node that the note at this place says was started, where it is not started again in the block.
-    fn last_at(&self, place: usize, note: &Note) -> Option<u32> {
-        match note {
-            Note::Started { uid, .. } if self.places[*uid as usize] == place => Some(*uid),
-            _ => None,
+    /// Whether the node of a uid, which the note at this place says was started, is not started again in the block. No
+    /// node has a uid without a place.
+    fn is_last(&self, uid: u32, place: usize) -> bool
+        ensures { uid < length self.now.places.items → result ≡ is_at self.now.places.items uid place }
+    {
+        match self.places.get(uid as usize) {
+            Some(kept) => *kept == place,
+            None => true,
         }
     }
 }
 
 /// The runner whose event has this header; 0 where it is that of no runner.
-fn runner_of(header: Header) -> u8 {
+fn runner_of(header: Header) -> u8
+    ensures { result ≡ runner_of header }
+{
     match header {
         Header::Tick { runner, .. }
         | Header::Halt { runner, .. }
@@ -60,13 +83,15 @@ fn runner_of(header: Header) -> u8 {
 fn put_input(
     line: &mut Vec<u8>,
     uid: u32,
-    name: &[u8],
+    name: &Name,
     value: &Option<Value>,
-) -> Result<(), NoMemory> {
+) -> Result<(), NoMemory>
+    ensures { OnOk result (line.new.items ≡ line.old.items ++ input_line uid name.now value.now) }
+{
     put_bytes(line, b"in ")?;
     put_number(line, u64::from(uid))?;
     put_bytes(line, b" ")?;
-    put_bytes(line, name)?;
+    put_bytes(line, name.list())?;
     put_bytes(line, b" ")?;
     match value {
         Some(value) => put_value(line, value)?,
@@ -75,51 +100,85 @@ fn put_input(
     put_bytes(line, b"\n")
 }
 
-/// Writes the lines of the inputs of a node that was started last with these.
+/// Writes the lines of the inputs of a node that was started last with these. After a stop a prefix of the bytes was
+/// written.
+#[tactic(auto, using(base_outside::proofs::Appends::appending))]
 fn write_inputs<K: Sink>(
     line: &mut Vec<u8>,
     out: &mut K,
     uid: u32,
     inputs: &[Option<Value>],
     names: &Names,
-) -> Result<(), TextStop> {
-    for (place, value) in inputs.iter().enumerate() {
+) -> Result<(), TextStop>
+    ensures whole { OnOk result (Appended (K.written out.old) (K.written out.new)
+        (concat (input_lines uid (node_inputs names.now uid) inputs.now))) }
+    ensures prefix { AppendedPrefix (K.written out.old) (K.written out.new)
+        (concat (input_lines uid (node_inputs names.now uid) inputs.now)) }
+    ensures failed { IsErrOf result TextStop.WriteFault → Rose (K.faults out.old) (K.faults out.new) }
+    ensures count { K.faults out.old ≤ K.faults out.new }
+{
+    for (name, value) in names.inputs(uid).iter().zip(inputs) {
         line.clear();
-        put_input(line, uid, names.input_name(uid, place as u8), value)?;
+        put_input(line, uid, name, value)?;
         write_line(out, line.as_slice())?;
     }
     Ok(())
 }
 
 /// Writes the lines of the notes of a block, with those of the inputs of each leaf that is told what it answers, after the
-/// last line of its start.
+/// last line of its start. After a stop a prefix of the bytes was written.
+#[tactic(auto, using(base_outside::proofs::Appends::appending))]
 fn write_noted<K: Sink>(
     line: &mut Vec<u8>,
     out: &mut K,
     session: &Session,
     names: &Names,
     starts: &Starts,
-) -> Result<(), TextStop> {
+) -> Result<(), TextStop>
+    requires room { length (labels session.now.tree) < length starts.now.places.items }
+    requires knows { KnowsLast starts.now.places.items session.now.block.notes }
+    ensures whole { let s = session.now in
+        OnOk result (Appended (K.written out.old) (K.written out.new)
+        (concat (told_notes names.now (kept_inputs s.state (runner_of s.block.header)) s.block.notes))) }
+    ensures prefix { let s = session.now in
+        AppendedPrefix (K.written out.old) (K.written out.new)
+        (concat (told_notes names.now (kept_inputs s.state (runner_of s.block.header)) s.block.notes)) }
+    ensures failed { IsErrOf result TextStop.WriteFault → Rose (K.faults out.old) (K.faults out.new) }
+    ensures count { K.faults out.old ≤ K.faults out.new }
+{
     let block = session.block();
     let notes = block.notes.list();
     let runner = runner_of(block.header);
     for (place, note) in notes.iter().enumerate() {
         write_notes(line, out, &notes[place..place + 1], names)?;
-        if let Some(uid) = starts.last_at(place, note) {
-            write_inputs(line, out, uid, session.inputs(runner, uid), names)?;
+        if let Note::Started { uid, .. } = note {
+            if starts.is_last(*uid, place) {
+                write_inputs(line, out, *uid, session.inputs(runner, *uid), names)?;
+            }
         }
     }
     Ok(())
 }
 
 /// Writes the lines of the block of the last event of a session, with what the inputs held of the leaves that it has started.
+/// After a stop a prefix of the bytes was written.
+#[tactic(auto, using(base_outside::proofs::Appends::appending))]
 pub fn write_answer<K: Sink>(
     line: &mut Vec<u8>,
     out: &mut K,
     session: &Session,
     names: &Names,
     starts: &mut Starts,
-) -> Result<(), TextStop> {
+) -> Result<(), TextStop>
+    requires room { length (labels session.now.tree) < length starts.old.places.items }
+    ensures whole { OnOk result (Appended (K.written out.old) (K.written out.new)
+        (concat (told_lines names.now session.now.state session.now.block))) }
+    ensures prefix { AppendedPrefix (K.written out.old) (K.written out.new)
+        (concat (told_lines names.now session.now.state session.now.block)) }
+    ensures failed { IsErrOf result TextStop.WriteFault → Rose (K.faults out.old) (K.faults out.new) }
+    ensures count { K.faults out.old ≤ K.faults out.new }
+    ensures places { length starts.new.places.items ≡ length starts.old.places.items }
+{
     let block: &Block = session.block();
     starts.find(block.notes.list());
     write_header(line, out, block.header, names)?;

@@ -1,5 +1,14 @@
 //! The rows of a tree that is served without a world.
 
+ghost use Rattle.std.specs.Prelude.{◌≡◌, ◌≤◌, IfOk, OnOk, bytes_eq, filter, length, map};
+ghost use Rattle.std.specs.Option.{option_copied};
+ghost use Rattle.base_tables.specs.Runnable.{IsRunnable};
+ghost use Rattle.cli_serve.specs.Rows.{RowGives, SortGives, ToldWorld, WorldGives};
+ghost use Rattle.spec_serve.specs.Rows.{model_elements, model_of, node_id, ports_of, row_for, told_row, told_sort, told_world, too_many, with_name, with_names};
+ghost use Rattle.spec_tree.specs.Limits.{most_file_bytes};
+ghost use Rattle.spec_tree_file.specs.Models.{attributes_of, children_of, is_model, name_of};
+ghost use Rattle.spec_world.specs.Runnable.{IsRunnableWorld};
+
 use base_tables::{MOST_OUTPUTS, MOST_PORTS, MOST_ROWS};
 use base_texts::{Items, Name, NoMemory, Stop};
 use cli_refusals::Refusal;
@@ -26,7 +35,9 @@ struct Leaf {
 type Leaves = IndexMap<Name, Leaf>;
 
 /// Adds a port to others, which stay in their order. The error is want of memory.
-fn add_port(alloc: Global, port: &Name, ports: &mut Vec<Name>) -> Result<(), NoMemory> {
+fn add_port(alloc: Global, port: &Name, ports: &mut Vec<Name>) -> Result<(), NoMemory>
+    ensures { OnOk result (ports.new.items ≡ with_name port.now ports.old.items) }
+{
     let mut at = 0;
     while at < ports.len() && ports[at].list() < port.list() {
         at += 1;
@@ -38,7 +49,10 @@ fn add_port(alloc: Global, port: &Name, ports: &mut Vec<Name>) -> Result<(), NoM
 }
 
 /// Adds the ports of a node to those of its ID.
-fn add_ports(alloc: Global, ports: &[Port], leaf: &mut Leaf) -> Result<(), NoMemory> {
+fn add_ports(alloc: Global, ports: &[Port], leaf: &mut Leaf) -> Result<(), NoMemory>
+    ensures ports { OnOk result (leaf.new.ports.items ≡ with_names (map (λ (p : Port). p.name) ports.now) leaf.old.ports.items) }
+    ensures form { leaf.new.is_condition ≡ leaf.old.is_condition }
+{
     for port in ports {
         add_port(alloc, &port.name, &mut leaf.ports)?;
     }
@@ -72,12 +86,16 @@ fn add_leaves(alloc: Global, term: &Term, leaves: &mut Leaves) -> Result<(), NoM
 }
 
 /// Whether an element has this name.
-fn is(element: &Element, name: &[u8]) -> bool {
+fn is(element: &Element, name: &[u8]) -> bool
+    ensures { result ≡ bytes_eq (name_of element.now) name.now }
+{
     element.name.list() == name
 }
 
 /// The ID of the node that an element stands for: the attribute of an `Action` or a `Condition`, and else its name.
-fn id_of(element: &Element) -> Option<&Name> {
+fn id_of(element: &Element) -> Option<&Name>
+    ensures { option_copied result ≡ node_id (name_of element.now) (attributes_of element.now) }
+{
     if is(element, b"Action") || is(element, b"Condition") {
         attribute(element.attributes.list(), b"ID")
     } else {
@@ -109,7 +127,9 @@ fn mark_trees(elements: &Elements, leaves: &mut Leaves) {
 }
 
 /// The models of a file; none where it has none.
-fn models(elements: &Elements) -> &[Element] {
+fn models(elements: &Elements) -> &[Element]
+    ensures { filter (λ m. is_model (name_of m)) result.now ≡ model_elements (children_of elements.now.root) }
+{
     for element in elements.root.children.list() {
         if is(element, b"TreeNodesModel") {
             return element.children.list();
@@ -119,13 +139,17 @@ fn models(elements: &Elements) -> &[Element] {
 }
 
 /// The model of an ID, if there is one.
-fn model_of<'a>(models: &'a [Element], id: &Name) -> Option<&'a Element> {
+fn model_of<'a>(models: &'a [Element], id: &Name) -> Option<&'a Element>
+    ensures { option_copied result ≡ model_of id.now (filter (λ m. is_model (name_of m)) models.now) }
+{
     models.iter().find(|model| (is(model, b"Action") || is(model, b"Condition"))
         && id_of(model) == Some(id))
 }
 
 /// The names of the ports of a model that have this direction or both, in their order.
-fn ports_of(alloc: Global, model: &Element, direction: &[u8]) -> Result<Vec<Name>, NoMemory> {
+fn ports_of(alloc: Global, model: &Element, direction: &[u8]) -> Result<Vec<Name>, NoMemory>
+    ensures { IfOk result (λ ports. ports.items ≡ ports_of direction.now model.now) }
+{
     let mut ports = Vec::new(alloc);
     for port in model.children.list() {
         if is(port, direction) || is(port, b"inout_port") {
@@ -139,7 +163,9 @@ fn ports_of(alloc: Global, model: &Element, direction: &[u8]) -> Result<Vec<Name
 }
 
 /// Copies of names.
-fn copies(alloc: Global, names: &[Name]) -> Result<Vec<Name>, NoMemory> {
+fn copies(alloc: Global, names: &[Name]) -> Result<Vec<Name>, NoMemory>
+    ensures { IfOk result (λ copies. copies.items ≡ names.now) }
+{
     let mut copies = Vec::new(alloc);
     for name in names {
         copies.push(name.copy(alloc)?)?;
@@ -148,10 +174,27 @@ fn copies(alloc: Global, names: &[Name]) -> Result<Vec<Name>, NoMemory> {
 }
 
 /// That something is beyond the limits of a world.
-fn too_many() -> Refusal {
+fn too_many() -> Refusal
+    ensures { result ≡ Refusal.World too_many }
+{
     Refusal::World(WorldFault {
         line: 0,
         kind: WorldKind::TooMany,
+    })
+}
+
+/// How the leaves of a row are told: as an action with these outputs, and as a condition without outputs.
+fn told_sort(is_condition: bool, outputs: Vec<Name>) -> Result<RowSort, Refusal>
+    ensures { SortGives result (told_sort is_condition outputs.items) }
+{
+    if is_condition {
+        return Ok(RowSort::Sensed);
+    }
+    if outputs.len() > MOST_OUTPUTS {
+        return Err(too_many());
+    }
+    Ok(RowSort::Told {
+        outs: Items::of(outputs),
     })
 }
 
@@ -162,17 +205,13 @@ fn told_row(
     is_condition: bool,
     inputs: Vec<Name>,
     outputs: Vec<Name>,
-) -> Result<Row, Refusal> {
-    if inputs.len() > MOST_PORTS || outputs.len() > MOST_OUTPUTS {
+) -> Result<Row, Refusal>
+    ensures { RowGives result (told_row id.now is_condition inputs.items outputs.items) }
+{
+    if inputs.len() > MOST_PORTS {
         return Err(too_many());
     }
-    let sort = if is_condition {
-        RowSort::Sensed
-    } else {
-        RowSort::Told {
-            outs: Items::of(outputs),
-        }
-    };
+    let sort = told_sort(is_condition, outputs)?;
     Ok(Row {
         id: id.copy(alloc)?,
         ports: Items::of(inputs),
@@ -184,7 +223,10 @@ fn told_row(
 }
 
 /// The row of an ID: by its model, or else by its nodes.
-fn row_of(alloc: Global, id: &Name, leaf: &Leaf, models: &[Element]) -> Result<Row, Refusal> {
+fn row_of(alloc: Global, id: &Name, leaf: &Leaf, models: &[Element]) -> Result<Row, Refusal>
+    ensures { RowGives result (row_for (model_of id.now (filter (λ m. is_model (name_of m)) models.now)) id.now
+        leaf.now.is_condition leaf.now.ports.items) }
+{
     match model_of(models, id) {
         Some(model) => {
             let inputs = ports_of(alloc, model, b"input_port")?;
@@ -214,7 +256,9 @@ fn rows_of(alloc: Global, leaves: &Leaves, models: &[Element]) -> Result<Vec<Row
 }
 
 /// The world of a tree whose leaves are all told what they answer, by the elements of its file.
-fn world_of(alloc: Global, elements: &Elements, tree: &Tree) -> Result<World, Refusal> {
+fn world_of(alloc: Global, elements: &Elements, tree: &Tree) -> Result<World, Refusal>
+    ensures { WorldGives result (told_world elements.now.root tree.now.term) }
+{
     let mut leaves = IndexMap::new(alloc);
     add_leaves(alloc, &tree.term, &mut leaves)?;
     mark_trees(elements, &mut leaves);
@@ -230,7 +274,12 @@ fn world_of(alloc: Global, elements: &Elements, tree: &Tree) -> Result<World, Re
 
 /// The world in which a tree is served where no world is named: no facts, one runner, and for each ID of its leaves a row
 /// by which they are told what they answer. The bytes are those of its file.
-pub fn told_world(alloc: Global, bytes: &[u8], tree: &Tree) -> Result<World, Refusal> {
+pub fn told_world(alloc: Global, bytes: &[u8], tree: &Tree) -> Result<World, Refusal>
+    requires bytes { length bytes.now ≤ most_file_bytes }
+    requires tree { IsRunnable tree.now }
+    ensures told { ToldWorld result bytes.now tree.now.term }
+    ensures runnable { IfOk result IsRunnableWorld }
+{
     match read_elements(alloc, bytes) {
         Ok(elements) => world_of(alloc, &elements, tree),
         Err(Stop::Fault(fault)) => Err(Refusal::Tree(TreeFault::Elements(fault))),

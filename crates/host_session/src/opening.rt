@@ -3,6 +3,7 @@ ghost use Rattle.std.specs.Option.{option_copied};
 ghost use Rattle.base_texts.specs.Stops.{Gives};
 ghost use Rattle.spec_tree.specs.Limits.{most_file_bytes};
 ghost use Rattle.spec_tree.specs.Trees.{IsValid, nodes_of};
+ghost use Rattle.spec_world.specs.Runnable.{IsRunnableWorld};
 ghost use Rattle.spec_world.specs.Worlds.{IsValidWorld};
 ghost use Rattle.spec_run.specs.Drivers.{DriverState};
 ghost use Rattle.spec_run.specs.Joins.{first_untold, lack_of};
@@ -136,7 +137,7 @@ impl Session {
     /// Opens the session of a tree in a world, before the first event; the fault is what is missing.
     pub fn of(alloc: Global, tree: Tree, world: World) -> Result<Session, Stop<JoinFault>>
         requires tree { IsRunnable tree }
-        requires world { IsValidWorld world }
+        requires world { IsRunnableWorld world }
         ensures lack { Joins result (lack_of tree world new_drivers) }
         ensures opened { IfOk result (λ session. session ≡ opened tree world) }
     {

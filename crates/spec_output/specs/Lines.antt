@@ -94,9 +94,13 @@ cell_at names slot = slice_index_or names.cells slot (owner 0 [])
 abbrev pub cell_words : Cell → List ℕ
 cell_words cell = decimal cell.scope ++ codes " " ++ cell.key
 
+-- the inputs of the node of a uid
+abbrev pub node_inputs : LineNames → ℕ → List (List ℕ)
+node_inputs names uid = slice_index_or names.inputs (uid - 1) []
+
 -- the input of the node of a uid at a place
 abbrev pub input_name : LineNames → ℕ → ℕ → List ℕ
-input_name names uid place = slice_index_or (slice_index_or names.inputs (uid - 1) []) place []
+input_name names uid place = slice_index_or (node_inputs names uid) place []
 
 -- the words of a cause of a fault of the node of this uid
 abbrev pub cause_words : LineNames → ℕ → Cause → List ℕ

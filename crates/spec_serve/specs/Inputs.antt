@@ -8,7 +8,7 @@ use Rattle.spec_run.specs.declared.note.Note.{Note}
 use Rattle.spec_run.specs.declared.note.Note.TheVariants as note
 use Rattle.spec_run.specs.Leaf.{fresh}
 use Rattle.spec_run.specs.Run.{Runner, RunState}
-use Rattle.spec_output.specs.Lines.{LineNames, change_lines, header_line, note_line, value_words}
+use Rattle.spec_output.specs.Lines.{LineNames, change_lines, header_line, node_inputs, note_line, value_words}
 use Rattle.spec_run.specs.declared.block.Block.{Block}
 
 -- the words of a value that an input held, or a sign that it held none
@@ -47,14 +47,9 @@ abbrev pub kept_inputs : RunState → ℕ → ℕ → List (Option Value)
 kept_inputs s (suc place) uid = kept_by (slice_get s.runners place) uid
 kept_inputs s zero uid = []
 
--- the names of the inputs of the node of a uid
-abbrev pub ports_of : LineNames → ℕ → List (List ℕ)
-ports_of names (suc place) = slice_index_or names.inputs place []
-ports_of names zero = []
-
 -- the lines of the inputs of a leaf that was started, unless one of the later notes says that it was started again
 abbrev pub started_lines : LineNames → (ℕ → List (Option Value)) → ℕ → List Note → List (List ℕ)
-started_lines names kept uid later = if list_any (starts uid) later then [] else input_lines uid (ports_of names uid) (kept uid)
+started_lines names kept uid later = if list_any (starts uid) later then [] else input_lines uid (node_inputs names uid) (kept uid)
 
 -- the lines of notes, with those of the inputs of the leaves that were started, after the last start of each
 abbrev pub told_notes : LineNames → (ℕ → List (Option Value)) → List Note → List (List ℕ)

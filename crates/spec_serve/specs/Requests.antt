@@ -1,6 +1,8 @@
 -- What the lines of a host ask, each after what was read before it: the lines of a world script that its events may have,
 -- and `finish`.
 use Rattle.std.specs.Prelude.{◌≡◌, ℕ, Bool, true, false, List, [], ◌∷◌, codes, bytes_eq, MatchBool, MatchOption, Option, Some, None, option_and_then, if◌then◌else◌, Result, Ok, Err}
+use Rattle.spec_serve.specs.declared.request.Request.{Request}
+use Rattle.spec_serve.specs.declared.request.Request.TheVariants.{At, Finish, Make}
 use Rattle.spec_world.specs.declared.world.Event.{Event}
 use Rattle.spec_world_file.specs.declared.world_fault.WorldKind.{WorldKind}
 use Rattle.spec_world_file.specs.declared.world_fault.WorldKind.TheVariants.{BadLine}
@@ -18,12 +20,6 @@ is_request _ = false
 -- what the content of a line says, if it has one of these forms
 abbrev pub request_line : List ℕ → Option Line
 request_line text = option_and_then (λ line. if is_request line then Some line else None) (line_in text)
-
--- what a line asks: that the runners are finished, that later events come at another moment, or that an event is made
-pub data Request : Type 0 where
-  Finish : Request
-  At : Request
-  Make : (event : Event) → Request
 
 -- what is asked by the events that a line has added
 abbrev pub request_of : List Event → Request

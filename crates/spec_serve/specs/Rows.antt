@@ -16,6 +16,7 @@ use Rattle.spec_world.specs.declared.world.Row.{Row}
 use Rattle.spec_world.specs.declared.world.RowSort.{RowSort}
 use Rattle.spec_world.specs.declared.world.RowSort.TheVariants.{Sensed, Told}
 use Rattle.spec_world.specs.declared.world.World.{World}
+use Rattle.spec_world.specs.Worlds.{outs_told}
 use Rattle.spec_world_file.specs.declared.world_fault.WorldFault.{WorldFault}
 use Rattle.spec_world_file.specs.declared.world_fault.WorldKind.TheVariants.{TooMany}
 
@@ -41,15 +42,15 @@ with_name name (other ∷ names) =
     else if bytes_eq name other then other ∷ names
     else other ∷ with_name name names
 
--- names in their order, each once
-abbrev pub in_order : List (List ℕ) → List (List ℕ)
-in_order [] = []
-in_order (name ∷ names) = with_name name (in_order names)
+-- names among others, each in its place, once
+abbrev pub with_names : List (List ℕ) → List (List ℕ) → List (List ℕ)
+with_names [] others = others
+with_names (name ∷ names) others = with_names names (with_name name others)
 
 -- the ports that the leaves of an ID give
 abbrev pub ports_given : List ℕ → Term → List (List ℕ)
 ports_given id term =
-    in_order (flat_map (λ (n : Node). map (λ (p : Port). p.name) n.ports) (filter (λ (n : Node). is_leaf n.kind && bytes_eq n.id id) (nodes_of term)))
+    with_names (flat_map (λ (n : Node). map (λ (p : Port). p.name) n.ports) (filter (λ (n : Node). is_leaf n.kind && bytes_eq n.id id) (nodes_of term))) []
 
 -- ---- What elements say of an ID
 
@@ -111,31 +112,35 @@ abbrev pub told_row : List ℕ → Bool → List (List ℕ) → List (List ℕ) 
 told_row id condition inputs outputs =
     record { id = id; ports = inputs; sort = told_sort condition outputs; needs = []; sets = []; outs = [] }
 
--- the row of an ID by its model, or by its nodes where it has none
-abbrev pub row_by : Option Element → Element → Term → List ℕ → Row
-row_by (Some model) root term id = told_row id (is_condition (name_of model)) (ports_of (codes "input_port") model) (ports_of (codes "output_port") model)
-row_by None root term id =
-    told_row id (are_conditions id root) (ports_given id term) (ports_given id term)
+-- the row of an ID by its model; where it has none, by whether its elements are conditions and by the ports of its nodes
+abbrev pub row_for : Option Element → List ℕ → Bool → List (List ℕ) → Row
+row_for (Some model) id condition ports =
+    told_row id (is_condition (name_of model)) (ports_of (codes "input_port") model) (ports_of (codes "output_port") model)
+row_for None id condition ports = told_row id condition ports ports
+
+-- the row of an ID in a file
+abbrev pub row_of : Element → Term → List ℕ → Row
+row_of root term id =
+    row_for (model_of id (model_elements (children_of root))) id (are_conditions id root) (ports_given id term)
 
 -- the rows of the IDs of leaves, in the order in which they stand first
 abbrev pub told_rows : Element → Term → List Row
-told_rows root term = map (λ id. row_by (model_of id (model_elements (children_of root))) root term id) (each_once [] (leaf_ids term))
-
--- the outputs of a row that is told
-abbrev pub outputs_of : RowSort → List (List ℕ)
-outputs_of (Told outputs) = outputs
-outputs_of _ = []
+told_rows root term = map (row_of root term) (each_once [] (leaf_ids term))
 
 -- whether a row is within the limits
 abbrev pub is_small_row : Row → Bool
-is_small_row row = nat_le (length row.ports) most_ports && nat_le (length (outputs_of row.sort)) most_outputs
+is_small_row row = nat_le (length row.ports) most_ports && nat_le (length (outs_told row.sort)) most_outputs
 
--- the world of these rows, if they are within the limits; no line of a file is at fault
+-- something is beyond the limits; no line of a file is at fault
+abbrev pub too_many : WorldFault
+too_many = record { line = 0; kind = TooMany }
+
+-- the world of these rows, if they are within the limits
 abbrev pub world_of : List Row → Result World WorldFault
 world_of rows =
     if nat_le (length rows) most_rows && list_all is_small_row rows
     then Ok (record { facts = []; rows = rows; goals = []; runners = 1; events = [] })
-    else Err (record { line = 0; kind = TooMany })
+    else Err too_many
 
 -- the world of a tree, by the elements of its file
 abbrev pub told_world : Element → Term → Result World WorldFault

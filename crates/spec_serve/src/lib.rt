@@ -2,6 +2,8 @@
 //! rows of a tree that is served without a world.
 #![tactic(auto)]
 
+mod request;
 mod request_fault;
 
+pub use request::Request;
 pub use request_fault::RequestFault;

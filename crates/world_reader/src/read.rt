@@ -1,5 +1,5 @@
 ghost use Rattle.std.specs.Prelude.{◌≡◌, ◌≤◌, length, map, IfOk};
-ghost use Rattle.spec_world_file.specs.WorldFile.{AfterLines, LinesMake, LinesRead, ReadsWorld};
+ghost use Rattle.spec_world_file.specs.WorldFile.{AfterLines, LinesMake, LinesRead, ReadsScript, ReadsWorld, ScriptReads};
 ghost use Rattle.spec_world.specs.Worlds.{IsValidWorld};
 ghost use Rattle.world_draft.specs.Readings.{Leaves};
 ghost use Rattle.world_reader.specs.Readings.{Gives};
@@ -64,7 +64,10 @@ fn world_following(alloc: Global, lines: &[&[u8]]) -> Result<World, Stop<WorldFa
 /// world is valid.
 pub fn read_script(alloc: Global, bytes: &[u8]) -> Result<(World, Reading), Stop<WorldFault>>
     requires { length bytes.now ≤ 1048576 }
+    ensures reads { Gives result (ReadsScript bytes.now) }
+    ensures valid { IfOk result (λ read. IsValidWorld read.0) }
 {
+    read_worlds_are_valid();
     let parts = parts(alloc, bytes, b'\n')?;
     script_of(alloc, without_rest(parts.as_slice()))
 }
@@ -72,6 +75,7 @@ pub fn read_script(alloc: Global, bytes: &[u8]) -> Result<(World, Reading), Stop
 /// The world of the lines of a file, and what the lines of a host are read after.
 fn script_of(alloc: Global, lines: &[&[u8]]) -> Result<(World, Reading), Stop<WorldFault>>
     requires { length lines.now ≤ 1048577 }
+    ensures { Gives result (ScriptReads (map (λ text. text.now) lines.now)) }
 {
     match lines {
         [first, rest @ ..] if is(trimmed(first), "bt-world 1") => {

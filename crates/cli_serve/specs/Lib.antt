@@ -1,0 +1,7 @@
+pub mod Asking
+pub mod Ends
+pub mod Files
+pub mod Rows
+pub mod Serving
+pub mod Starts
+pub mod Taking
