@@ -1,2 +1,3 @@
 pub mod Appends
+mod InputLines
 pub mod Rises

@@ -1,9 +1,11 @@
-//! What the engine asks of the outside: a shelf of files by name, a sink of bytes and a clock.
+//! What the engine asks of the outside: a shelf of files by name, an input of lines, a sink of bytes and a clock.
 #![tactic(auto)]
 
 mod clock;
 mod dir_shelf;
 mod host_clock;
+mod in_lines;
+mod lines;
 mod mem_clock;
 mod mem_shelf;
 mod mem_sink;
@@ -16,6 +18,8 @@ mod sure_sink;
 pub use clock::Clock;
 pub use dir_shelf::DirShelf;
 pub use host_clock::HostClock;
+pub use in_lines::InLines;
+pub use lines::Lines;
 pub use mem_clock::MemClock;
 pub use mem_shelf::MemShelf;
 pub use mem_sink::MemSink;

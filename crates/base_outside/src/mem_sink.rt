@@ -66,6 +66,8 @@ impl Sink for MemSink {
 
     ghost written = { λ s. Some s.written };
 
+    ghost handed = { λ s. Some s.written };
+
     ghost faults = { λ s. s.faults };
 
     fn write(&mut self, piece: &[u8]) -> Result<(), SinkFault>
@@ -89,5 +91,13 @@ impl Sink for MemSink {
                 Err(SinkFault::Failed)
             }
         }
+    }
+
+    /// All is here as soon as it is written.
+    fn flush(&mut self) -> Result<(), SinkFault>
+        ensures kept { self.new ≡ self.old }
+        ensures sure { ¬ IsErrOf result SinkFault.Failed }
+    {
+        Ok(())
     }
 }

@@ -45,21 +45,6 @@ impl<W: Write + Drop> OutSink<W> {
         }
     }
 
-    /// Hands what is gathered to the writer. `SinkFault::Failed` comes only where the writer fails, and
-    /// raises the count of failures; what was not written stays gathered. It allocates nothing.
-    pub fn flush(&mut self) -> Result<(), SinkFault>
-        ensures whole { OnOk result (self.new.gathered ≡ []) }
-        ensures kept { Keeps (written_so_far self.old) (written_so_far self.new) }
-        ensures raised { IsErrOf result SinkFault.Failed → self.new.faults ≡ next self.old.faults }
-        ensures calm { OnOk result (self.new.faults ≡ self.old.faults) }
-        ensures no_memory { ¬ IsErrOf result SinkFault.NoMemory }
-    {
-        match self.writer.flush() {
-            Ok(()) => Ok(()),
-            Err(_) => self.fail(),
-        }
-    }
-
     /// One turn: how many bytes of the piece the writer takes, and 0 where it fails. The writer is
     /// called in two places, so that of the call with room only the copy is left.
     #[inline(always)]
@@ -143,6 +128,8 @@ impl<W: Write + Drop> Sink for OutSink<W> {
 
     ghost written = { written_by };
 
+    ghost handed = { λ s. s.told };
+
     ghost faults = { λ s. s.faults };
 
     /// Writes the piece. Most pieces have room beside what is gathered, and are taken at once.
@@ -165,5 +152,24 @@ impl<W: Write + Drop> Sink for OutSink<W> {
             return self.fail();
         }
         self.write_turns(&piece[taken..])
+    }
+
+    /// Hands what is gathered to the writer. `SinkFault::Failed` comes only where the writer fails, and
+    /// raises the count of failures; what was not written stays gathered. It allocates nothing.
+    fn flush(&mut self) -> Result<(), SinkFault>
+        ensures kept { Keeps (written_so_far self.old) (written_so_far self.new) }
+        ensures failed { IsErrOf result SinkFault.Failed → Rose self.old.faults self.new.faults }
+        ensures count { self.old.faults ≤ self.new.faults }
+        ensures handed { OnOk result (self.new.told ≡ written_so_far self.new) }
+
+        ensures whole { OnOk result (self.new.gathered ≡ []) }
+        ensures raised { IsErrOf result SinkFault.Failed → self.new.faults ≡ next self.old.faults }
+        ensures calm { OnOk result (self.new.faults ≡ self.old.faults) }
+        ensures no_memory { ¬ IsErrOf result SinkFault.NoMemory }
+    {
+        match self.writer.flush() {
+            Ok(()) => Ok(()),
+            Err(_) => self.fail(),
+        }
     }
 }

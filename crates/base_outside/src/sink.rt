@@ -1,4 +1,5 @@
-ghost use Rattle.std.specs.Prelude.{◌≤◌, ℕ, List, Option, OnOk, IsErrOf};
+ghost use Rattle.std.specs.Prelude.{◌≡◌, ◌≤◌, ℕ, List, Option, OnOk, IsErrOf};
+ghost use Rattle.std.specs.Io.KnownBytes.{Keeps};
 ghost use Rattle.spec_outside.specs.Appending.{Appended, AppendedPrefix};
 ghost use Rattle.spec_outside.specs.Counts.{Rose};
 
@@ -16,6 +17,9 @@ pub trait Sink {
     /// The bytes written so far, where the sink tells them.
     ghost written: { Self → Option (List ℕ) };
 
+    /// The bytes that were handed on to whoever reads them, where the sink tells them.
+    ghost handed: { Self → Option (List ℕ) };
+
     /// The count of failures. It never falls.
     ghost faults: { Self → ℕ };
 
@@ -24,6 +28,14 @@ pub trait Sink {
     fn write(&mut self, piece: &[u8]) -> Result<(), SinkFault>
         ensures whole { OnOk result (Appended (written self.old) (written self.new) piece.now) }
         ensures prefix { AppendedPrefix (written self.old) (written self.new) piece.now }
+        ensures failed { IsErrOf result SinkFault.Failed → Rose (faults self.old) (faults self.new) }
+        ensures count { faults self.old ≤ faults self.new };
+
+    /// Hands on all that was written to whoever reads it, and writes nothing. `SinkFault::Failed` comes only where the
+    /// count of failures rose in this call.
+    fn flush(&mut self) -> Result<(), SinkFault>
+        ensures kept { Keeps (written self.old) (written self.new) }
+        ensures handed { OnOk result (handed self.new ≡ written self.new) }
         ensures failed { IsErrOf result SinkFault.Failed → Rose (faults self.old) (faults self.new) }
         ensures count { faults self.old ≤ faults self.new };
 }

@@ -42,6 +42,8 @@ impl Sink for SureSink {
 
     ghost written = { λ bytes. Some bytes };
 
+    ghost handed = { λ bytes. Some bytes };
+
     ghost faults = { λ _. 0 };
 
     fn write(&mut self, piece: &[u8]) -> Result<(), SinkFault>
@@ -53,5 +55,13 @@ impl Sink for SureSink {
         self.bytes
             .extend_from_slice(piece)
             .map_err(|_| SinkFault::NoMemory)
+    }
+
+    /// All is here as soon as it is written.
+    fn flush(&mut self) -> Result<(), SinkFault>
+        ensures kept { self.new ≡ self.old }
+        ensures sure { ¬ IsErrOf result SinkFault.Failed }
+    {
+        Ok(())
     }
 }

@@ -1,4 +1,5 @@
 pub mod Appending
 pub mod Counts
 pub mod Files
+pub mod Lines
 pub mod Moments

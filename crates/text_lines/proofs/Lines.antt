@@ -4,7 +4,7 @@ use Rattle.std.proofs.lemmas.List.{take_more, drop_more, take-append-drop, map-a
 use Rattle.std.proofs.lemmas.List.Folds.{concat-append}
 use Rattle.std.specs.List.{concat}
 use Rattle.spec_run.specs.declared.block.Block.{Block}
-use Rattle.spec_output.specs.Lines.{LineNames, entry_line, fact_line, header_line, lines_of, note_line}
+use Rattle.spec_output.specs.Lines.{LineNames, change_lines, header_line, lines_of, note_line}
 use Rattle.spec_outside.specs.Appending.{Appended, AppendedPrefix}
 use Rattle.base_outside.proofs.Appends.{Appended-trans, AppendedPrefix-whole, AppendedPrefix-longer, AppendedPrefix-after}
 
@@ -56,20 +56,30 @@ AppendedPrefix-map_next f xs i d a b c h p q =
     (subst (AppendedPrefix b c) (sym (ap (λ ys. concat (map f ys)) (drop_more xs i d h)))
     (AppendedPrefix-longer b c (f (get_or xs i d)) (concat (map f (drop (i + 1) xs))) q)))
 
+-- some texts were written, and then others
+pub Appended-both :
+    (xs ys : List (List ℕ)) (a b c : Option (List ℕ)) → Appended a b (concat xs) → Appended b c (concat ys) → Appended a c (concat (xs ++ ys))
+Appended-both xs ys a b c p q = subst (Appended a c) (sym (concat-append xs ys)) (Appended-trans a b c (concat xs) (concat ys) p q)
+
+-- a prefix of some texts was written, after which others stand
+pub AppendedPrefix-first :
+    (xs ys : List (List ℕ)) (a b : Option (List ℕ)) → AppendedPrefix a b (concat xs) → AppendedPrefix a b (concat (xs ++ ys))
+AppendedPrefix-first xs ys a b p = subst (AppendedPrefix a b) (sym (concat-append xs ys)) (AppendedPrefix-longer a b (concat xs) (concat ys) p)
+
+-- some texts were written, and a prefix of others
+pub AppendedPrefix-second :
+    (xs ys : List (List ℕ)) (a b c : Option (List ℕ)) → Appended a b (concat xs) → AppendedPrefix b c (concat ys) → AppendedPrefix a c (concat (xs ++ ys))
+AppendedPrefix-second xs ys a b c p q = subst (AppendedPrefix a c) (sym (concat-append xs ys)) (AppendedPrefix-after a b c (concat xs) (concat ys) p q)
+
 -- the lines of a block were written
 pub Appended-lines_of :
-    (names : LineNames) (block : Block) (a b c d e : Option (List ℕ)) →
+    (names : LineNames) (block : Block) (a b c d : Option (List ℕ)) →
     Appended a b (header_line names block.header) → Appended b c (concat (map (note_line names) block.notes)) →
-    Appended c d (concat (map (fact_line names) block.facts)) → Appended d e (concat (map (entry_line names) block.entries)) →
-    Appended a e (concat (lines_of names block))
-Appended-lines_of names block a b c d e p q r s =
-    let header = header_line names block.header in
+    Appended c d (concat (change_lines names block)) → Appended a d (concat (lines_of names block))
+Appended-lines_of names block a b c d p q r =
     let notes = map (note_line names) block.notes in
-    let facts = map (fact_line names) block.facts in
-    let entries = map (entry_line names) block.entries in
-    let first = subst (Appended b d) (sym (concat-append notes facts)) (Appended-trans b c d (concat notes) (concat facts) q r) in
-    let rest = subst (Appended b e) (sym (concat-append (notes ++ facts) entries)) (Appended-trans b d e (concat (notes ++ facts)) (concat entries) first s) in
-    Appended-trans a b e header (concat (notes ++ facts ++ entries)) p rest
+    let changes = change_lines names block in
+    Appended-trans a b d (header_line names block.header) (concat (notes ++ changes)) p (Appended-both notes changes b c d q r)
 
 -- the header of a block was written, and a prefix of its notes
 pub AppendedPrefix-lines_of_notes :
@@ -77,42 +87,16 @@ pub AppendedPrefix-lines_of_notes :
     Appended a b (header_line names block.header) → AppendedPrefix b c (concat (map (note_line names) block.notes)) →
     AppendedPrefix a c (concat (lines_of names block))
 AppendedPrefix-lines_of_notes names block a b c p q =
-    let header = header_line names block.header in
     let notes = map (note_line names) block.notes in
-    let facts = map (fact_line names) block.facts in
-    let entries = map (entry_line names) block.entries in
-    let more = subst (AppendedPrefix b c) (sym (concat-append notes facts)) (AppendedPrefix-longer b c (concat notes) (concat facts) q) in
-    let rest = AppendedPrefix-longer b c (concat (notes ++ facts)) (concat entries) more in
-    AppendedPrefix-after a b c header (concat (notes ++ facts ++ entries)) p
-    (subst (AppendedPrefix b c) (sym (concat-append (notes ++ facts) entries)) rest)
+    let changes = change_lines names block in
+    AppendedPrefix-after a b c (header_line names block.header) (concat (notes ++ changes)) p (AppendedPrefix-first notes changes b c q)
 
--- the header and the notes of a block were written, and a prefix of its facts
-pub AppendedPrefix-lines_of_facts :
+-- the header and the notes of a block were written, and a prefix of its changes
+pub AppendedPrefix-lines_of_changes :
     (names : LineNames) (block : Block) (a b c d : Option (List ℕ)) →
     Appended a b (header_line names block.header) → Appended b c (concat (map (note_line names) block.notes)) →
-    AppendedPrefix c d (concat (map (fact_line names) block.facts)) → AppendedPrefix a d (concat (lines_of names block))
-AppendedPrefix-lines_of_facts names block a b c d p q r =
-    let header = header_line names block.header in
+    AppendedPrefix c d (concat (change_lines names block)) → AppendedPrefix a d (concat (lines_of names block))
+AppendedPrefix-lines_of_changes names block a b c d p q r =
     let notes = map (note_line names) block.notes in
-    let facts = map (fact_line names) block.facts in
-    let entries = map (entry_line names) block.entries in
-    let more = subst (AppendedPrefix b d) (sym (concat-append notes facts)) (AppendedPrefix-after b c d (concat notes) (concat facts) q r) in
-    let rest = AppendedPrefix-longer b d (concat (notes ++ facts)) (concat entries) more in
-    AppendedPrefix-after a b d header (concat (notes ++ facts ++ entries)) p
-    (subst (AppendedPrefix b d) (sym (concat-append (notes ++ facts) entries)) rest)
-
--- the header, the notes and the facts of a block were written, and a prefix of its entries
-pub AppendedPrefix-lines_of_entries :
-    (names : LineNames) (block : Block) (a b c d e : Option (List ℕ)) →
-    Appended a b (header_line names block.header) → Appended b c (concat (map (note_line names) block.notes)) →
-    Appended c d (concat (map (fact_line names) block.facts)) → AppendedPrefix d e (concat (map (entry_line names) block.entries)) →
-    AppendedPrefix a e (concat (lines_of names block))
-AppendedPrefix-lines_of_entries names block a b c d e p q r s =
-    let header = header_line names block.header in
-    let notes = map (note_line names) block.notes in
-    let facts = map (fact_line names) block.facts in
-    let entries = map (entry_line names) block.entries in
-    let first = subst (Appended b d) (sym (concat-append notes facts)) (Appended-trans b c d (concat notes) (concat facts) q r) in
-    let rest = AppendedPrefix-after b d e (concat (notes ++ facts)) (concat entries) first s in
-    AppendedPrefix-after a b e header (concat (notes ++ facts ++ entries)) p
-    (subst (AppendedPrefix b e) (sym (concat-append (notes ++ facts) entries)) rest)
+    let changes = change_lines names block in
+    AppendedPrefix-after a b d (header_line names block.header) (concat (notes ++ changes)) p (AppendedPrefix-second notes changes b c d q r)

@@ -1,7 +1,7 @@
 ghost use Rattle.std.specs.Prelude.{◌≡◌, ◌≤◌, OnOk, IsErrOf, IsTrue, map};
 ghost use Rattle.std.specs.List.{concat};
 ghost use Rattle.run_arena.specs.Blocks.{seen};
-ghost use Rattle.spec_output.specs.Lines.{entry_line, fact_line, lines_of, note_line};
+ghost use Rattle.spec_output.specs.Lines.{change_lines, entry_line, fact_line, header_line, lines_of, note_line};
 ghost use Rattle.text_lines.specs.Notes.{is_long};
 ghost use Rattle.spec_outside.specs.Appending.{Appended, AppendedPrefix};
 ghost use Rattle.spec_outside.specs.Counts.{Rose};
@@ -14,7 +14,7 @@ use crate::short::ShortLine;
 use crate::stop::TextStop;
 use base_outside::Sink;
 use run_arena::Block;
-use spec_run::Note;
+use spec_run::{Header, Note};
 use spec_script::Value;
 use std::alloc::Global;
 
@@ -36,12 +36,45 @@ pub fn write_block<K: Sink>(
     ensures count { K.faults out.old ≤ K.faults out.new }
 {
     let mut line = empty_line(alloc)?;
-    put_header(&mut line, block.header, names)?;
-    write_line(out, line.as_slice())?;
+    write_header(&mut line, out, block.header, names)?;
     write_notes(&mut line, out, block.notes.list(), names)?;
-    write_facts(&mut line, out, block.facts.as_slice(), names)?;
-    write_entries(&mut line, out, block.entries.as_slice(), names)?;
-    Ok(())
+    write_changes(&mut line, out, block, names)
+}
+
+/// Writes the line of an event, which uses the room of `line`. After a stop a prefix of it was written.
+pub fn write_header<K: Sink>(
+    line: &mut Vec<u8>,
+    out: &mut K,
+    header: Header,
+    names: &Names,
+) -> Result<(), TextStop>
+    ensures whole { OnOk result (Appended (K.written out.old) (K.written out.new) (header_line names.now header)) }
+    ensures prefix { AppendedPrefix (K.written out.old) (K.written out.new) (header_line names.now header) }
+    ensures failed { IsErrOf result TextStop.WriteFault → Rose (K.faults out.old) (K.faults out.new) }
+    ensures count { K.faults out.old ≤ K.faults out.new }
+{
+    line.clear();
+    put_header(line, header, names)?;
+    write_line(out, line.as_slice())
+}
+
+/// Writes the lines of the facts and the entries that changed. All use the room of `line`. After a stop a prefix of the
+/// bytes was written.
+#[tactic(auto, using(base_outside::proofs::Appends::appending))]
+pub fn write_changes<K: Sink>(
+    line: &mut Vec<u8>,
+    out: &mut K,
+    block: &Block,
+    names: &Names,
+) -> Result<(), TextStop>
+    ensures whole { OnOk result
+        (Appended (K.written out.old) (K.written out.new) (concat (change_lines names.now (seen block.now)))) }
+    ensures prefix { AppendedPrefix (K.written out.old) (K.written out.new) (concat (change_lines names.now (seen block.now))) }
+    ensures failed { IsErrOf result TextStop.WriteFault → Rose (K.faults out.old) (K.faults out.new) }
+    ensures count { K.faults out.old ≤ K.faults out.new }
+{
+    write_facts(line, out, block.facts.as_slice(), names)?;
+    write_entries(line, out, block.entries.as_slice(), names)
 }
 
 /// Writes the line by one write. After a stop a prefix of it was written. `TextStop::WriteFault`
@@ -60,7 +93,7 @@ pub fn write_line<K: Sink>(out: &mut K, line: &[u8]) -> Result<(), TextStop>
 /// Writes the lines of the notes. The long ones all use the room of `line`. After a stop a prefix
 /// of the bytes was written.
 #[tactic(auto, using(base_outside::proofs::Appends::appending))]
-fn write_notes<K: Sink>(
+pub fn write_notes<K: Sink>(
     line: &mut Vec<u8>,
     out: &mut K,
     notes: &[Note],

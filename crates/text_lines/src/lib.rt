@@ -13,9 +13,9 @@ mod tail;
 mod tree;
 mod word;
 
-pub use block::{write_block, write_line};
+pub use block::{write_block, write_changes, write_header, write_line, write_notes};
 pub use names::{Names, names_of, no_names};
-pub use put::{put_bytes, put_number, put_quoted, put_signed};
+pub use put::{empty_line, put_bytes, put_number, put_quoted, put_signed};
 pub use stop::TextStop;
 pub use tree::write_tree;
-pub use word::put_cause;
+pub use word::{put_cause, put_value};

@@ -3,7 +3,7 @@ ghost use Rattle.std.specs.Option.{option_copied};
 ghost use Rattle.spec_tree.specs.declared.term.Term.{out-Term};
 ghost use Rattle.base_tables.specs.SlotTables.{slot_table};
 ghost use Rattle.spec_run.specs.Leaves.{row_of};
-ghost use Rattle.spec_output.specs.Lines.{cell_at, cell_words, fact_name, fact_names, input_name, inputs_of, line_names, own_inputs};
+ghost use Rattle.spec_output.specs.Lines.{cell_at, cell_words, fact_name, fact_names, input_name, inputs_of, line_names, node_inputs, own_inputs};
 ghost use Rattle.spec_output.specs.NoNames.{no_names};
 
 use crate::label::{Label, Labels, labels_to};
@@ -65,6 +65,16 @@ impl Names {
                 None => b"",
             },
             None => b"",
+        }
+    }
+
+    /// The names of the inputs of the node with this uid; none where there is no such node.
+    pub fn inputs(&self, uid: u32) -> &[Name]
+        ensures { result.now ≡ node_inputs self.now uid }
+    {
+        match self.inputs.get(uid.saturating_sub(1) as usize) {
+            Some(inputs) => inputs.list(),
+            None => &[],
         }
     }
 
