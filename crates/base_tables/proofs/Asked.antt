@@ -29,22 +29,7 @@ asked_since way phase.Running inputs i = refl
 asked_since way phase.Halted inputs i = refl
 asked_since way phase.Told inputs i = refl
 
--- without inputs, an instance stays as it is
-asked_none_at : (b : Bool) (i : Instance) → i ≡ (if b then started_with [] i else i)
-asked_none_at true i = refl
-asked_none_at false i = refl
-
-pub asked_none : (way : Way) (p : Phase) (inputs : List (Option Value)) (i : Instance) → inputs ≡ [] → i ≡ asked way p inputs i
-asked_none way phase.Start inputs i none = asked_none_at (is_told_way way) i ∙ ap (λ (xs : List (Option Value)). asked way phase.Start xs i) (sym none)
-asked_none way phase.Running inputs i none = refl
-asked_none way phase.Halted inputs i none = refl
-asked_none way phase.Told inputs i none = refl
-
--- and so it does where its leaf goes on
-pub asked_again : (way : Way) (st : Status) (inputs : List (Option Value)) (i : Instance) → st ≡ status.Running → i ≡ asked way (phase_of st) inputs i
-asked_again way st inputs i is = ap (λ (s : Status). asked way (phase_of s) inputs i) (sym is)
-
--- and where its leaf is told nothing
+-- where its leaf is told nothing, an instance stays as it is
 pub asked_deaf : (way : Way) (p : Phase) (inputs : List (Option Value)) (i : Instance) → is_told_way way ≡ false → i ≡ asked way p inputs i
 asked_deaf way phase.Start inputs i deaf = ap (λ (b : Bool). if b then started_with inputs i else i) (sym deaf)
 asked_deaf way phase.Running inputs i deaf = refl

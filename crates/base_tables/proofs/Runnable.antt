@@ -1,5 +1,5 @@
--- A valid tree can be run.
-use Rattle.std.proofs.Common.{◌≡◌, ℕ, ◌≤◌, List, [], ◌∷◌, true, false, if◌then◌else◌, Some, subst, lit≤}
+-- A valid tree can be run, and so can a valid world.
+use Rattle.std.proofs.Common.{◌≡◌, ℕ, ◌≤◌, List, [], ◌∷◌, true, false, if◌then◌else◌, Some, subst, lit≤, arith}
 use Rattle.std.specs.List.{AllByRecursion}
 use Rattle.std.specs.Str.{bytes_eq}
 use Rattle.spec_tree.specs.declared.term.Kind.{Kind}
@@ -8,6 +8,15 @@ use Rattle.spec_tree.specs.declared.term.Tree.{Tree}
 use Rattle.spec_tree.specs.BuiltIns.{kind_among, named_kinds}
 use Rattle.base_tables.specs.Runnable.{FewCases, IsRunnable, NodeRuns}
 use Rattle.spec_tree.specs.Trees.{IdFits, IsValid, Node, NodeFits, nodes_of}
+use Rattle.spec_world.specs.declared.world.Fact.{Fact}
+use Rattle.spec_world.specs.declared.world.Row.{Row}
+use Rattle.spec_world.specs.declared.world.RowSort.{RowSort}
+use Rattle.spec_world.specs.declared.world.RowSort.TheVariants.{Is, When, Timed, Replay, Gate, Sensed, Told}
+use Rattle.spec_world.specs.declared.world.World.{World}
+use Rattle.spec_world.specs.Runnable.{AreTexts, IsRunnableRow, IsRunnableSort, IsRunnableWorld, most_ports_of}
+use Rattle.spec_world.specs.Worlds.{AreNames, IsValidRow, IsValidSort, IsValidWorld}
+
+-- ---- Trees
 
 -- each Switch of a table has few cases
 abbrev HaveFewCases : List (List ℕ × Kind) → Type 0
@@ -46,3 +55,55 @@ all_run (node ∷ nodes) fit = (node_runs node fit.0, all_run nodes fit.1)
 
 pub runnable : (tree : Tree) → IsValid tree → IsRunnable tree
 runnable tree valid = record { limits = valid.limits; fit = all_run (nodes_of tree.term) valid.fit }
+
+-- ---- Worlds
+
+names_are_texts : (most more : ℕ) (names : List (List ℕ)) → most ≤ more → AreNames most names → AreTexts more names
+names_are_texts most more names fewer are = record { few = omega (arith, are.few, fewer); distinct = are.distinct }
+
+-- as many input ports as a valid row may have
+ports_run : (sort : RowSort) → 8 ≤ most_ports_of sort
+ports_run (Told outs) = lit≤ tt
+ports_run (Is fact op value) = lit≤ tt
+ports_run (When e) = lit≤ tt
+ports_run (Timed ms fails) = lit≤ tt
+ports_run (Replay ms outcomes) = lit≤ tt
+ports_run (Gate e) = lit≤ tt
+ports_run Sensed = lit≤ tt
+
+sort_runs : (facts : List Fact) (ports : List (List ℕ)) (sort : RowSort) → IsValidSort facts ports sort → IsRunnableSort facts ports sort
+sort_runs facts ports (Told outs) valid = names_are_texts 8 64 outs (lit≤ tt) valid
+sort_runs facts ports (Is fact op value) valid = valid
+sort_runs facts ports (When e) valid = valid
+sort_runs facts ports (Timed ms fails) valid = valid
+sort_runs facts ports (Replay ms outcomes) valid = valid
+sort_runs facts ports (Gate e) valid = valid
+sort_runs facts ports Sensed valid = valid
+
+row_runs : (facts : List Fact) (rows : List Row) (row : Row) → IsValidRow facts rows row → IsRunnableRow facts rows row
+row_runs facts rows row valid = record {
+  ports = names_are_texts 8 _ row.ports (ports_run row.sort) valid.ports;
+  sort = sort_runs facts row.ports row.sort valid.sort;
+  needs = valid.needs;
+  needed = valid.needed;
+  sets = valid.sets;
+  effects = valid.effects;
+  outs = names_are_texts 8 8 _ (lit≤ tt) valid.outs;
+  outputs = valid.outputs;
+  bare = valid.bare;
+}
+
+pub runnable_world : (world : World) → IsValidWorld world → IsRunnableWorld world
+runnable_world world valid = record {
+  facts = valid.facts;
+  openings = valid.openings;
+  ids = names_are_texts 1024 4096 _ (lit≤ tt) valid.ids;
+  rows = λ k row within. row_runs world.facts world.rows _ (valid.rows k row within);
+  goals = valid.goals;
+  wanted = valid.wanted;
+  some_runner = valid.some_runner;
+  few_runners = valid.few_runners;
+  few_events = valid.few_events;
+  events = valid.events;
+  in_order = valid.in_order;
+}

@@ -1,5 +1,5 @@
 ghost use Rattle.std.specs.Prelude.{◌≡◌, pos};
-ghost use Rattle.spec_tree.specs.Limits.{last_moment, most_depth, most_effects, most_events, most_facts, most_file_bytes, most_goals, most_keys, most_leaves, most_name_bytes, most_needs, most_nodes, most_outcomes, most_outputs, most_ports, most_rounds, most_rows, most_runners, most_scopes, most_text_bytes, most_work};
+ghost use Rattle.spec_tree.specs.Limits.{last_moment, most_depth, most_effects, most_events, most_facts, most_file_bytes, most_goals, most_keys, most_leaves, most_made_ports, most_made_rows, most_name_bytes, most_needs, most_nodes, most_outcomes, most_outputs, most_ports, most_rounds, most_rows, most_runners, most_scopes, most_text_bytes, most_work};
 
 /// The greatest size of a file, in bytes.
 pub const MOST_FILE_BYTES: u64 = 1_048_576;
@@ -24,6 +24,12 @@ pub const MOST_FACTS: usize = 1024;
 
 /// The most rows of a world.
 pub const MOST_ROWS: usize = 1024;
+
+/// The most rows that are made for the leaves of a tree that is run without a world script.
+pub const MOST_MADE_ROWS: usize = 4096;
+
+/// The most input ports of such a row, and the most outputs.
+pub const MOST_MADE_PORTS: usize = 64;
 
 /// The most goals of a world.
 pub const MOST_GOALS: usize = 64;
@@ -74,6 +80,8 @@ pub fn limits_are_named()
     ensures work { MOST_WORK ≡ most_work }
     ensures facts { MOST_FACTS ≡ most_facts }
     ensures rows { MOST_ROWS ≡ most_rows }
+    ensures made_rows { MOST_MADE_ROWS ≡ most_made_rows }
+    ensures made_ports { MOST_MADE_PORTS ≡ most_made_ports }
     ensures goals { MOST_GOALS ≡ most_goals }
     ensures runners { MOST_RUNNERS ≡ most_runners }
     ensures events { MOST_EVENTS ≡ most_events }

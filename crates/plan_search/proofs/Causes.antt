@@ -33,7 +33,7 @@ use Rattle.spec_plan.specs.Forests.{Forest, Empty, Tree, part_at}
 use Rattle.spec_plan.specs.Planned.{id_of, kind_of, part_id, terms_of}
 use Rattle.spec_plan.specs.Achievers.{needs_of}
 use Rattle.spec_plan.specs.Modelled.{modelled, ticks}
-use Rattle.plan_trial.proofs.Claims.{TermMeets}
+use Rattle.run_laws.proofs.Claims.{TermMeets}
 use Rattle.plan_trial.proofs.Portless.{IsPortless, plain_meets, portless, run_meets}
 use Rattle.plan_trial.proofs.PortlessRows.{HasNoName}
 use Rattle.spec_plan.specs.declared.ending.End.{End}

@@ -1,6 +1,3 @@
-pub mod ClaimedRules
-pub mod ClaimedVisits
-pub mod Claims
 pub mod Faults
 pub mod Finishing
 pub mod Portless

@@ -37,8 +37,8 @@ use Rattle.spec_run.specs.Visit.{change, meaning, meaning_of_node}
 use Rattle.spec_world.specs.Worlds.{IsValidRow}
 use Rattle.base_tables.proofs.Calls.{as_many_facts}
 use Rattle.spec_plan.specs.Planned.{plain_node}
-use Rattle.plan_trial.proofs.Claims.{Claim, EndMeets, Meets, TermMeets, done_meets, follow_meets, following_meets}
-use Rattle.plan_trial.proofs.ClaimedVisits.{node_meets}
+use Rattle.run_laws.proofs.Claims.{Claim, EndMeets, Meets, TermMeets, done_meets, follow_meets, following_meets}
+use Rattle.run_laws.proofs.ClaimedVisits.{node_meets}
 use Rattle.plan_trial.proofs.PortlessRows.{HasNoName, ReplyThere, portless_there}
 
 module _ (world : World) where
@@ -46,17 +46,18 @@ module _ (world : World) where
   abbrev pub portless : Claim
   portless = record {
     state = λ s. length s.facts ≡ length world.facts;
-    notes = λ notes. Unit {0};
+    notes = λ s notes s1. Unit {0};
     cause = HasNoName;
     view = λ view. (view.rows ≡ world.rows) × (view.facts ≡ world.facts);
-    no_note = tt;
-    both = λ xs ys one other. tt;
-    changed = λ uid old new. tt;
-    halted = λ uid. tt;
-    freed = λ s instances fits. fits;
+    reach = λ far. Unit {0};
+    no_note = λ s. tt;
+    both = λ s s1 s2 xs ys one other. tt;
+    changed = λ s uid old new. tt;
+    halted = λ s uid fits. (fits, tt);
     bad_port = λ port. tt;
     mixed = tt;
     below = λ v scope seen. seen;
+    nearer = λ near far low high. tt;
   }
 
   -- ---- Nodes
@@ -72,7 +73,7 @@ module _ (world : World) where
   reply_end uid reply.Failure there = tt
   reply_end uid (reply.Broken cause) there = there
 
-  leaf_meets : (row : Option Row) → IfSome row IsPortless → (site : Site) → site.view.facts ≡ world.facts → (st : Status) (ms : List Memory) (s : State) → length s.facts ≡ length world.facts → Meets portless (leaf_call row site st ms s)
+  leaf_meets : (row : Option Row) → IfSome row IsPortless → (site : Site) → site.view.facts ≡ world.facts → (st : Status) (ms : List Memory) (s : State) → length s.facts ≡ length world.facts → Meets portless s (leaf_call row site st ms s)
   leaf_meets None is site seen st ms s fits = done_meets portless _ ms s fits
   leaf_meets (Some row) is site seen st ms s fits =
       let phase : Phase = phase_of st in
@@ -92,7 +93,7 @@ module _ (world : World) where
       AllByRecursion (TermMeets portless) (map meaning children) → TermMeets portless (meaning (roll-Term (plain_node kind id children)))
   plain_meets kind id children is each =
       subst (λ (c : Meaning). TermMeets portless c) (sym (fold-roll-Term Meaning meaning_of_node (plain_node kind id children)))
-      (node_meets portless _ (λ view seen uid. record {
+      (node_meets portless _ (λ view seen uid near. record {
         failure_if = tt;
         success_if = tt;
         skip_if = tt;
@@ -123,23 +124,23 @@ module _ (world : World) where
     told_meets (Ok a) header runner notes calls s after fits end = record { state = fits; fault = tt }
     told_meets (Err f) header runner notes calls s after fits end = record { state = fits; fault = end }
 
-    done_step : {A : Type 0} (header : Header) (runner at : ℕ) (s : RunState) (d : Done A Memory) → Meets portless d → StepMeets (told d.answer header tree runner d.notes d.calls s (with_runner s runner at d))
-    done_step header runner at s d meets = told_meets d.answer header runner d.notes d.calls s (with_runner s runner at d) meets.state meets.end
+    done_step : {A : Type 0} (header : Header) (runner at : ℕ) (s : RunState) (s1 : State) (d : Done A Memory) → Meets portless s1 d → StepMeets (told d.answer header tree runner d.notes d.calls s (with_runner s runner at d))
+    done_step header runner at s s1 d meets = told_meets d.answer header runner d.notes d.calls s (with_runner s runner at d) meets.state meets.end
 
     tick_meets : (o : Option Runner) (runner at : ℕ) (s : RunState) → Fits s → StepMeets (tick_step o tree world runner at s)
     tick_meets None runner at s fits = record { state = fits; fault = tt }
     tick_meets (Some r) runner at s fits =
         let s1 : State = state_of r s.facts at in
         let d : Done Answer Memory = (meaning tree.term).visit (root_view tree world) 1 r.memory s1 in
-        done_step (header.Tick runner at) runner at s (ticked tree (root_view tree world) runner r.memory s1)
-        (follow_meets portless d (λ m1. m1) (λ a m1 s2. root_told runner a m1 s2) (meets.visit (root_view tree world) (refl, refl) 1 r.memory s1 fits)
-        (λ a after. following_meets portless (Root runner a ∷ change 1 (out-Memory d.memory).status (settled (out-Memory d.memory).status)) [] (done a (remembered (settled (out-Memory d.memory).status) (out-Memory d.memory).memo (out-Memory d.memory).children) d.state) tt (done_meets portless a _ d.state after)))
+        done_step (header.Tick runner at) runner at s s1 (ticked tree (root_view tree world) runner r.memory s1)
+        (follow_meets portless s1 d (λ m1. m1) (λ a m1 s2. root_told runner a m1 s2) (meets.visit (root_view tree world) (refl, refl) 1 tt r.memory s1 fits)
+        (λ a after. following_meets portless (Root runner a ∷ change 1 (out-Memory d.memory).status (settled (out-Memory d.memory).status)) [] d.state d.state (done a (remembered (settled (out-Memory d.memory).status) (out-Memory d.memory).memo (out-Memory d.memory).children) d.state) tt (done_meets portless a _ d.state after)))
 
     reset_meets : (o : Option Runner) (header : Header) (runner at : ℕ) (s : RunState) → Fits s → StepMeets (reset_step o header tree world runner at s)
     reset_meets None header runner at s fits = record { state = fits; fault = tt }
     reset_meets (Some r) header runner at s fits =
         let s1 : State = state_of r s.facts at in
-        done_step header runner at s (root_reset tree (root_view tree world) r.memory s1) (meets.reset (root_view tree world) (refl, refl) 1 r.memory s1 fits)
+        done_step header runner at s s1 (root_reset tree (root_view tree world) r.memory s1) (meets.reset (root_view tree world) (refl, refl) 1 tt r.memory s1 fits)
 
     tell_meets : (o : Option Runner) (runner uid : ℕ) (telling : Telling) (at : ℕ) (s : RunState) → Fits s → StepMeets (tell_step o runner uid telling at s)
     tell_meets None runner uid telling at s fits = record { state = fits; fault = tt }

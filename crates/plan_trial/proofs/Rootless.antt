@@ -28,8 +28,8 @@ use Rattle.spec_run.specs.Sites.{Meaning, Site, View}
 use Rattle.spec_run.specs.Visit.{change, meaning}
 use Rattle.run_laws.proofs.Induction.{every_term}
 use Rattle.plan_trial.specs.Roots.{TellRootOnce, is_root}
-use Rattle.plan_trial.proofs.Claims.{Claim, Meets, TermMeets}
-use Rattle.plan_trial.proofs.ClaimedVisits.{NodeMeets, ScriptMeets, change_meets, node_meets}
+use Rattle.run_laws.proofs.Claims.{Claim, Meets, TermMeets}
+use Rattle.run_laws.proofs.ClaimedVisits.{NodeMeets, ScriptMeets, change_meets, node_meets}
 
 -- how many notes tell an answer of the root
 abbrev roots : List Note → ℕ
@@ -42,17 +42,18 @@ roots_both xs ys = sum_by-append (λ note. cond (is_root note) 1 0) xs ys
 abbrev rootless : Claim
 rootless = record {
   state = λ s. Unit {0};
-  notes = λ notes. roots notes ≡ 0;
+  notes = λ s notes s1. roots notes ≡ 0;
   cause = λ cause. Unit {0};
   view = λ view. Unit {0};
-  no_note = refl;
-  both = λ xs ys one other. omega (arith, one, other, roots_both xs ys);
-  changed = λ uid old new. refl;
-  halted = λ uid. refl;
-  freed = λ s instances fits. tt;
+  reach = λ far. Unit {0};
+  no_note = λ s. refl;
+  both = λ s s1 s2 xs ys one other. omega (arith, one, other, roots_both xs ys);
+  changed = λ s uid old new. refl;
+  halted = λ s uid fits. (tt, refl);
   bad_port = λ port. tt;
   mixed = tt;
   below = λ v scope seen. tt;
+  nearer = λ near far low high. tt;
 }
 
 -- ---- Every term
@@ -61,12 +62,12 @@ any_end : {A : Type 0} (answer : Result A NodeFault) → IfErr answer (λ f. Uni
 any_end (Ok a) = tt
 any_end (Err f) = tt
 
-without_notes : {A M : Type 0} (d : Done A M) → roots d.notes ≡ 0 → Meets rootless d
-without_notes d none = record { state = tt; notes = none; end = any_end d.answer }
+without_notes : {A M : Type 0} (s : State) (d : Done A M) → roots d.notes ≡ 0 → Meets rootless s d
+without_notes s d none = record { state = tt; notes = none; end = any_end d.answer }
 
 any_script : (site : Site) (script : Option Script) → ScriptMeets rootless site script
 any_script site None = tt
-any_script site (Some script) = λ s fits. without_notes _ refl
+any_script site (Some script) = λ s fits. without_notes s _ refl
 
 reply_rootless : (p : Phase) (uid : ℕ) (r : Reply) → roots (reply_notes p uid r) ≡ 0
 reply_rootless phase.Start uid reply.Running = refl
@@ -77,9 +78,9 @@ reply_rootless _ uid reply.Success = refl
 reply_rootless _ uid reply.Failure = refl
 reply_rootless p uid (reply.Broken cause) = refl
 
-any_leaf : (row : Option Row) (site : Site) (st : Status) (ms : List Memory) (s : State) → Meets rootless (leaf_call row site st ms s)
-any_leaf None site st ms s = without_notes _ refl
-any_leaf (Some row) site st ms s = without_notes (leaf_call (Some row) site st ms s) (reply_rootless _ site.uid _)
+any_leaf : (row : Option Row) (site : Site) (st : Status) (ms : List Memory) (s : State) → Meets rootless s (leaf_call row site st ms s)
+any_leaf None site st ms s = without_notes s _ refl
+any_leaf (Some row) site st ms s = without_notes s (leaf_call (Some row) site st ms s) (reply_rootless _ site.uid _)
 
 any_node : (site : Site) → NodeMeets rootless site
 any_node site = record {
@@ -101,7 +102,7 @@ all_rootless term each (c ∷ cs) = (each c, all_rootless term each cs)
 
 term_rootless : (t : Term) → TermMeets rootless (meaning t)
 term_rootless = every_term (λ t c rules. TermMeets rootless c) (λ X term each node.
-    node_meets rootless (map-Term X Meaning (λ c. meaning (term c)) node) (λ view seen uid. any_node _) (all_rootless term each node.children))
+    node_meets rootless (map-Term X Meaning (λ c. meaning (term c)) node) (λ view seen uid near. any_node _) (all_rootless term each node.children))
 
 -- ---- A tick
 
@@ -111,12 +112,12 @@ module _ (tree : Tree) (runner : ℕ) where
       let st : Status = (out-Memory d.memory).status in
       let change_notes : List Note = change 1 st (settled st) in
       let root : List Note = Root runner a ∷ [] in
-      omega (arith, none, roots_both d.notes (Root runner a ∷ change_notes ++ []), roots_both root (change_notes ++ []), roots_both change_notes [], change_meets rootless 1 st (settled st))
+      omega (arith, none, roots_both d.notes (Root runner a ∷ change_notes ++ []), roots_both root (change_notes ++ []), roots_both change_notes [], change_meets rootless d.state 1 st (settled st))
   told_once (Err f) d none = omega (arith, none)
 
   -- a tick tells the root's answer once, or it ends in a fault
   tick_once : (view : View) (m : Memory) (s : State) → TellRootOnce (ticked tree view runner m s).notes
-  tick_once view m s = let d : Done Answer Memory = (meaning tree.term).visit view 1 m s in told_once d.answer d ((term_rootless tree.term).visit view tt 1 m s tt).notes
+  tick_once view m s = let d : Done Answer Memory = (meaning tree.term).visit view 1 m s in told_once d.answer d ((term_rootless tree.term).visit view tt 1 tt m s tt).notes
 
   without_fault : (r : Result Answer NodeFault) (header : Header) (notes : List Note) (calls : List Call) (s after : RunState) → TellRootOnce notes → (told r header tree runner notes calls s after).fault ≡ None → TellRootOnce (told r header tree runner notes calls s after).block.notes
   without_fault (Ok a) header notes calls s after once none = once

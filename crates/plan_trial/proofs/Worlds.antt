@@ -1,18 +1,20 @@
 -- The world of a modelled run, and its task.
 use Rattle.std.proofs.Common.{arith}
+use Rattle.base_tables.proofs.Runnable.{runnable_world}
 use Rattle.spec_world.specs.declared.world.World.{World}
+use Rattle.spec_world.specs.Runnable.{IsRunnableWorld}
 use Rattle.spec_world.specs.Worlds.{IsValidWorld}
 use Rattle.spec_plan.specs.Modelled.{modelled}
 
--- .. is valid where the world of the plan is
-pub modelled_valid : (world : World) → IsValidWorld world → IsValidWorld (modelled world)
-modelled_valid world valid = record {
-  facts = valid.facts;
-  openings = valid.openings;
-  ids = valid.ids;
-  rows = valid.rows;
-  goals = valid.goals;
-  wanted = valid.wanted;
+-- .. can be run where the world of the plan is valid
+pub modelled_runs : (world : World) → IsValidWorld world → IsRunnableWorld (modelled world)
+modelled_runs world valid = let can = runnable_world world valid in record {
+  facts = can.facts;
+  openings = can.openings;
+  ids = can.ids;
+  rows = can.rows;
+  goals = can.goals;
+  wanted = can.wanted;
   some_runner = omega arith;
   few_runners = omega arith;
   few_events = omega arith;

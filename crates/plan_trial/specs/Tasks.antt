@@ -5,7 +5,7 @@ use Rattle.spec_world.specs.declared.world.World.{World}
 use Rattle.base_tables.specs.SlotTables.{slot_table}
 use Rattle.spec_run.specs.Drivers.{DriverState}
 use Rattle.spec_tree.specs.Terms.{leaf_ids}
-use Rattle.spec_world.specs.Worlds.{IsValidWorld}
+use Rattle.spec_world.specs.Runnable.{IsRunnableWorld}
 use Rattle.spec_run.specs.Joins.{first_missing}
 use Rattle.spec_plan.specs.declared.domain.Test.{Test}
 use Rattle.spec_plan.specs.Achievers.{test_of}
@@ -32,7 +32,7 @@ pub record IsInRange (pace : Pace) : Type 0 where
 -- the task of this world
 pub record IsTaskOf (world : World) (task : Task) : Type 0 where
   pub world_is : task.world ≡ modelled world
-  pub valid : IsValidWorld (modelled world)
+  pub runnable : IsRunnableWorld (modelled world)
   pub goals : AreTests world task.goals.items
   pub pace : IsInRange task.pace
 

@@ -1,5 +1,5 @@
 -- The rows of a world can be made ready, and a leaf for which nothing is missing has a place of a driver.
-use Rattle.std.proofs.Common.{◌≡◌, ℕ, ◌+◌, ◌<◌, List, [], ◌∷◌, Bool, true, false, if◌then◌else◌, Option, Some, None, length, refl, subst, arith}
+use Rattle.std.proofs.Common.{◌≡◌, ℕ, ◌+◌, ◌<◌, List, [], ◌∷◌, Bool, true, false, if◌then◌else◌, Option, Some, None, length, subst, arith}
 use Rattle.std.specs.List.{All, IsDistinct}
 use Rattle.std.specs.Option.{option_map}
 use Rattle.std.specs.Str.{bytes_eq}
@@ -11,8 +11,9 @@ use Rattle.spec_world.specs.declared.world.RowSort.{RowSort}
 use Rattle.spec_world.specs.declared.world.RowSort.TheVariants as sort
 use Rattle.spec_world.specs.declared.world.World.{World}
 use Rattle.spec_run.specs.Drivers.{DriverState, kind_of_row, place_of_kind, same_kind}
-use Rattle.spec_world.specs.Worlds.{IsValidSort, IsValidWorld, is_modelled, is_told, outs_told}
-use Rattle.run_driver.proofs.Valid.{can_be_ready}
+use Rattle.spec_world.specs.Runnable.{IsRunnableSort, IsRunnableWorld}
+use Rattle.spec_world.specs.Worlds.{outs_told}
+use Rattle.run_driver.proofs.Runnable.{can_be_ready, told_not_modelled}
 use Rattle.run_driver.specs.Places.{CanBeReady}
 use Rattle.spec_run.specs.Joins.{place_by}
 use Rattle.run_arena.specs.Rows.{TellsEachOnce}
@@ -38,33 +39,27 @@ place_below (d ∷ ds) kind = let e : 1 + length ds ≡ length (d ∷ ds) = omeg
 pub place_within : (ds : List DriverState) (kind : DriverKind) (place : ℕ) → place_of_kind ds kind ≡ Some place → place < length ds
 place_within ds kind place is = subst (IsBelow (length ds)) is (place_below ds kind)
 
--- a row whose leaves are told what they answer is not modelled
-told_not_modelled : (s : RowSort) → is_told s ≡ true → is_modelled s ≡ false
-told_not_modelled sort.Sensed told = refl
-told_not_modelled (sort.Told outs) told = refl
-told_not_modelled _ told = absurd (cc)
-
 no_names_alike : IsDistinct bytes_eq []
 unfolding IsDistinct
 no_names_alike = tt
 
-names_differ : (facts : List Fact) (ports : List (List ℕ)) (s : RowSort) → IsValidSort facts ports s → IsDistinct bytes_eq (outs_told s)
-names_differ facts ports (sort.Told outs) valid = valid.distinct
-names_differ facts ports _ valid = no_names_alike
+names_differ : (facts : List Fact) (ports : List (List ℕ)) (s : RowSort) → IsRunnableSort facts ports s → IsDistinct bytes_eq (outs_told s)
+names_differ facts ports (sort.Told outs) can = can.distinct
+names_differ facts ports _ can = no_names_alike
 
 -- the rows of a world tell each value once
-pub rows_once : (world : World) → IsValidWorld world → All TellsEachOnce world.rows
-rows_once world valid k row within =
-    let is = valid.rows k row within in
+pub rows_once : (world : World) → IsRunnableWorld world → All TellsEachOnce world.rows
+rows_once world can k row within =
+    let is = can.rows k row within in
     record {
       bare = λ told. (is.bare (told_not_modelled _ told)).2;
       distinct = names_differ world.facts _ _ is.sort;
     }
 
 -- the rows of a world can be made ready
-pub rows_ready : (world : World) → IsValidWorld world → All (CanBeReady world.facts) world.rows
-rows_ready world valid k row within =
-    can_be_ready world.facts world.rows _ (omega (arith, valid.facts.few, length-map world.facts (λ (f : Fact). f.name))) (valid.rows k row within)
+pub rows_ready : (world : World) → IsRunnableWorld world → All (CanBeReady world.facts) world.rows
+rows_ready world can k row within =
+    can_be_ready world.facts world.rows _ (omega (arith, can.facts.few, length-map world.facts (λ (f : Fact). f.name))) (can.rows k row within)
 
 -- the place of the driver that serves a row is less than the number of drivers
 pub place_by_within : (found : Option Row) (ds : List DriverState) (place : ℕ) → place_by found ds ≡ Some place → place < length ds

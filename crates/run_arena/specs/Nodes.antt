@@ -11,7 +11,7 @@ use Rattle.spec_tree.specs.declared.term.Guards.{Guards}
 use Rattle.spec_tree.specs.declared.term.Kind.TheVariants.{Leaf, AlwaysSuccess}
 use Rattle.spec_tree.specs.declared.term.Port.{Port}
 use Rattle.spec_world.specs.declared.world.Row.{Row}
-use Rattle.spec_world.specs.Worlds.{outs_told}
+use Rattle.spec_world.specs.Worlds.{is_told, outs_told}
 use Rattle.spec_tree.specs.BuiltIns.{PortRule, ports_of}
 use Rattle.spec_run.specs.Leaf.{rule_of}
 use Rattle.spec_run.specs.Leaves.{row_of}
@@ -102,7 +102,7 @@ pub record IsLeafOf (view : View) (ports : List Port) (leaf : ReadyLeaf) (row : 
   pub rule : rule leaf.row ≡ rule_of view.facts row
   pub facts : leaf.row.facts ≡ length view.facts
   pub inputs : leaf.inputs ≡ map (λ name. source_at view ports name) row.ports
-  pub few_inputs : length row.ports ≤ 8
+  pub few_inputs : is_told row.sort ≡ false → length row.ports ≤ 8
   pub read : All (IsSourceOf (length view.slots)) leaf.inputs
   pub outputs : leaf.outputs ≡ map (λ name. source_at view ports name) (output_names row)
   pub few_outputs : length row.outs ≤ 8

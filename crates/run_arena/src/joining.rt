@@ -4,7 +4,7 @@ ghost use Rattle.base_tables.specs.SlotTables.{slot_table};
 ghost use Rattle.spec_run.specs.Leaves.{row_of};
 ghost use Rattle.spec_tree.specs.Terms.{leaf_ids, own_leaf_id};
 ghost use Rattle.base_tables.specs.Runnable.{IsRunnable};
-ghost use Rattle.spec_world.specs.Worlds.{IsValidWorld};
+ghost use Rattle.spec_world.specs.Runnable.{IsRunnableWorld};
 ghost use Rattle.run_arena.specs.Joining.{Joins, ids_lent};
 ghost use Rattle.spec_run.specs.Joins.{first_missing, leaf_lacks, place_by};
 ghost use Rattle.run_arena.specs.Laying.{counted_all};
@@ -151,7 +151,7 @@ fn arena_with<D: Drivers>(
     runner: u8,
 ) -> Result<Arena, NoMemory>
     requires tree { IsRunnable setting.now.tree.now }
-    requires world { IsValidWorld setting.now.world.now }
+    requires world { IsRunnableWorld setting.now.world.now }
     requires joined { first_missing setting.now.world.now.rows (D.states drivers.now) (leaf_ids setting.now.tree.now.term) ≡ None }
     requires firsts { firsts.items ≡ map (λ count. (runner - 1) * count)
         (counted_all setting.now.world.now (D.states drivers.now) (leaf_ids setting.now.tree.now.term)
@@ -180,7 +180,7 @@ pub fn first_arena_of<D: Drivers>(
 ) -> Result<Arena, NoMemory>
     requires tree { IsRunnable tree.now }
     requires slots { slots.now ≡ slot_table tree.now }
-    requires world { IsValidWorld world.now }
+    requires world { IsRunnableWorld world.now }
     requires joined { first_missing world.now.rows (D.states drivers.now) (leaf_ids tree.now.term) ≡ None }
     ensures { IfOk result (λ arena. IsArenaOf tree.now world.now (D.states drivers.now) 1 arena) }
 {
@@ -210,7 +210,7 @@ pub fn arena_of<D: Drivers>(
 ) -> Result<Arena, Stop<JoinFault>>
     requires tree { IsRunnable tree.now }
     requires slots { slots.now ≡ slot_table tree.now }
-    requires world { IsValidWorld world.now }
+    requires world { IsRunnableWorld world.now }
     requires first { 1 ≤ runner }
     requires last { runner ≤ world.now.runners }
     ensures fault { Joins result (first_missing world.now.rows (D.states drivers.now) (leaf_ids tree.now.term)) }

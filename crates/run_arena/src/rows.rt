@@ -3,7 +3,7 @@ ghost use Rattle.std.specs.Option.{option_copied, option_or};
 ghost use Rattle.std.specs.Str.{bytes_eq};
 ghost use Rattle.indexmap.specs.IndexMap.{get};
 ghost use Rattle.std.specs.List.{All};
-ghost use Rattle.spec_world.specs.Worlds.{IsValidWorld};
+ghost use Rattle.spec_world.specs.Runnable.{IsRunnableWorld};
 ghost use Rattle.run_driver.specs.Places.{CanBeReady};
 ghost use Rattle.run_arena.specs.Rows.{AreReady, Finds, TellsEachOnce};
 
@@ -97,7 +97,7 @@ fn add_row(
 
 /// The numbers of rows by their IDs, or want of memory. Of several rows of one ID the first counts.
 fn index_of(alloc: Global, rows: &[Row]) -> Result<IndexMap<Name, u32>, NoMemory>
-    requires { length rows.now ≤ 1024 }
+    requires { length rows.now ≤ 4096 }
     ensures { IfOk result (λ index. Finds rows.now (get bytes_eq index)) }
 {
     let mut index = IndexMap::with_capacity(alloc, rows.len())?;
@@ -128,7 +128,7 @@ fn ready_rows(
 
 /// A world, made ready for the arenas that are made for it. The error is want of memory.
 pub fn index_world(alloc: Global, world: &World) -> Result<IndexedWorld, NoMemory>
-    requires { IsValidWorld world.now }
+    requires { IsRunnableWorld world.now }
     ensures { IfOk result (λ indexed. indexed ≡ world.now) }
 {
     let rows = world.rows.list();

@@ -8,6 +8,6 @@ pub mod Parts
 pub mod Placing
 pub mod Preparing
 pub mod Quiet
+pub mod Runnable
 pub mod Sights
 pub mod Tests
-pub mod Valid

@@ -1,11 +1,11 @@
 -- The names that a row's expressions look at, with their places, and what must hold of the row.
-use Rattle.std.specs.Prelude.{ℕ, ◌<◌, ◌≤◌, List, length, map, IfSome}
+use Rattle.std.specs.Prelude.{◌≡◌, ℕ, ◌<◌, ◌≤◌, true, false, if◌then◌else◌, List, [], length, map, IfSome}
 use Rattle.std.specs.List.{All}
 use Rattle.spec_world.specs.declared.world.Fact.{Fact}
 use Rattle.spec_world.specs.declared.world.Out.{Out}
 use Rattle.spec_world.specs.declared.world.Row.{Row}
 use Rattle.spec_world.specs.declared.world.Set.{Set}
-use Rattle.spec_world.specs.Worlds.{IsExprOver, names_of_facts}
+use Rattle.spec_world.specs.Worlds.{IsExprOver, is_told, names_of_facts}
 use Rattle.spec_world.specs.declared.world.RowSort.{RowSort}
 use Rattle.spec_world.specs.declared.world.RowSort.TheVariants as sort
 
@@ -25,10 +25,15 @@ IsSortOver ports facts (sort.Gate test) = IsExprOver ports (names_of_facts facts
 IsSortOver ports facts sort.Sensed = Unit {0}
 IsSortOver ports facts (sort.Told outs) = Unit {0}
 
--- what must hold of a row that is made ready; it holds of each valid row of a world with these facts
+-- the ports that the expressions of a row may name: one whose leaves are told what they answer has no expressions
+abbrev pub ports_named : RowSort → List (List ℕ) → List (List ℕ)
+ports_named sort ports = if is_told sort then [] else ports
+
+-- what must hold of a row that is made ready; it holds of each row that can be run in a world with these facts
 pub record CanBeReady (facts : List Fact) (row : Row) : Type 0 where
   pub few_facts : length facts ≤ 1024
-  pub few_ports : length row.ports ≤ 8
+  pub few_ports : is_told row.sort ≡ false → length row.ports ≤ 8
+  pub bare : is_told row.sort ≡ true → row.outs ≡ []
   pub sort : IsSortOver row.ports facts row.sort
   pub effects : All (λ (set : Set). set.fact < length facts) row.sets
   pub few_outs : length row.outs ≤ 8

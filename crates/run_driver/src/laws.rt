@@ -6,7 +6,7 @@ ghost use Rattle.spec_world.specs.declared.world.Fact.{Fact};
 ghost use Rattle.spec_world.specs.declared.world.Row.{Row};
 ghost use Rattle.spec_run.specs.Leaf.{Rule, leaf_rule, padded, rule_answer, start_of};
 ghost use Rattle.base_tables.specs.Outputs.{since_after};
-ghost use Rattle.spec_world.specs.Worlds.{IsValidRow};
+ghost use Rattle.spec_world.specs.Runnable.{IsRunnableRow};
 ghost use Rattle.run_driver.specs.Places.{CanBeReady};
 
 /// After each call an instance is held exactly where its leaf is running, since the time of its
@@ -25,7 +25,7 @@ pub fn inputs_may_be_left_out()
         leaf_rule names row phase instance (padded inputs) facts now ≡ leaf_rule names row phase instance inputs facts now }
 {}
 
-/// Each valid row of a world can be made ready.
-pub fn valid_rows_can_be_ready()
-    ensures { (facts : List Fact) (rows : List Row) (row : Row) → length facts ≤ 1024 → IsValidRow facts rows row → CanBeReady facts row }
+/// Each row of a world that can be run can be made ready.
+pub fn rows_can_be_ready()
+    ensures { (facts : List Fact) (rows : List Row) (row : Row) → length facts ≤ 1024 → IsRunnableRow facts rows row → CanBeReady facts row }
 {}

@@ -4,7 +4,7 @@ ghost use Rattle.spec_run.specs.Drivers.{kind_of_row};
 ghost use Rattle.base_tables.specs.DriverCalls.{kind_of_way};
 ghost use Rattle.spec_run.specs.Leaf.{number_of, place_of, rule_of, test_of, way_of};
 ghost use Rattle.spec_world.specs.Worlds.{IsExprOver, names_of_facts, outs_told};
-ghost use Rattle.run_driver.specs.Places.{CanBeReady, IsSortOver};
+ghost use Rattle.run_driver.specs.Places.{CanBeReady, IsSortOver, ports_named};
 ghost use Rattle.run_driver.specs.Ready.{expr_reach, fails_reach, ready_number, ready_test, ready_told, ready_way, sort_reach};
 ghost use Rattle.run_driver.specs.Rules.{rule};
 
@@ -12,7 +12,7 @@ use crate::expression::ReadyExpr;
 use crate::naming::{Names, places_of};
 use crate::row::ReadyRow;
 use crate::sort::ReadySort;
-use base_texts::{Items, NoMemory, copy_names};
+use base_texts::{Items, Name, NoMemory, copy_names};
 use script_code::compile_expr;
 use spec_run::DriverKind;
 use spec_script::Expr;
@@ -109,6 +109,16 @@ pub fn kind_of(row: &Row) -> DriverKind
     }
 }
 
+/// The ports that the expressions of a row may name: one whose leaves are told what they answer has no expressions.
+fn ports_named(row: &Row) -> &[Name]
+    ensures { result.now ≡ ports_named row.now.sort row.now.ports }
+{
+    match &row.sort {
+        RowSort::Sensed | RowSort::Told { .. } => &[],
+        _ => row.ports.list(),
+    }
+}
+
 /// A row of a world with these facts, made ready: its rule is the row's. The error is want of
 /// memory.
 pub fn ready(alloc: Global, row: &Row, facts: &[Fact]) -> Result<ReadyRow, NoMemory>
@@ -119,7 +129,7 @@ pub fn ready(alloc: Global, row: &Row, facts: &[Fact]) -> Result<ReadyRow, NoMem
     ensures facts { IfOk result (λ r. r.facts ≡ length facts.now) }
 {
     let names = Names {
-        ports: row.ports.list(),
+        ports: ports_named(row),
         facts,
     };
     let sets = Vec::from_slice(alloc, row.sets.list())?;

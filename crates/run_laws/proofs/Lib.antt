@@ -3,6 +3,9 @@ pub mod AfterScripts
 pub mod Beginnings
 pub mod Children
 pub mod Choices
+pub mod ClaimedRules
+pub mod ClaimedVisits
+pub mod Claims
 pub mod Decorators
 pub mod Entries
 pub mod Events
@@ -23,6 +26,7 @@ pub mod Pipelines
 pub mod Quenches
 pub mod Quiet
 pub mod Rates
+pub mod ReadNotes
 pub mod Recovering
 pub mod Resting
 pub mod RoundRobins

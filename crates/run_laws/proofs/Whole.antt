@@ -1,5 +1,5 @@
 -- A node with children that keep their rules: the rule of the node itself, and those of its children.
-use Rattle.std.proofs.Common.{◌≡◌, ℕ, ◌+◌, ◌<◌, ◌≤◌, List, Option, Some, None, sym, ap, subst, ◌∙◌, arith}
+use Rattle.std.proofs.Common.{◌≡◌, ℕ, ◌+◌, ◌<◌, ◌≤◌, List, Option, Some, None, sym, subst, ◌∙◌, arith}
 use Rattle.spec_run.specs.declared.memory.Memo.{Memo}
 use Rattle.spec_run.specs.declared.memory.Memo.TheVariants.{Since as Begun, Pace as Paced}
 use Rattle.spec_run.specs.declared.memory.Memory.{Memory, Memory-F, out-Memory, out-roll-Memory}
@@ -17,7 +17,7 @@ use Rattle.spec_run.specs.Done.{Done, State}
 use Rattle.spec_run.specs.Leaves.{row_of}
 use Rattle.base_tables.specs.Shapes.{IsBegun, IsPaced, RestingShape, RunningShape, Shape}
 use Rattle.spec_run.specs.Sites.{View, remembered}
-use Rattle.base_tables.specs.Sound.{Leaves, NodeRule, OffPath, held_at}
+use Rattle.base_tables.specs.Sound.{Leaves, NodeRule, OffPath}
 use Rattle.spec_run.specs.Steps.{Given}
 use Rattle.spec_run.specs.Visit.{status_of}
 use Rattle.run_laws.proofs.Parts.{Same}

@@ -1,4 +1,4 @@
--- The runners of a tree that can be run in a valid world have few leaves together.
+-- The runners of a tree in a world, both of which can be run, have few leaves together.
 use Rattle.std.proofs.Common.{◌≡◌, ℕ, ℤ, suc, ◌+◌, ◌*◌, ◌≤◌, List, [], ◌∷◌, Some, map, length, slice_get, refl, arith}
 use Rattle.std.proofs.Math.Nat.{add-mul}
 use Rattle.std.proofs.lemmas.Nat.{mul-le}
@@ -7,7 +7,7 @@ use Rattle.spec_tree.specs.declared.term.Tree.{Tree}
 use Rattle.spec_world.specs.declared.world.World.{World}
 use Rattle.spec_run.specs.Drivers.{DriverState}
 use Rattle.base_tables.specs.Runnable.{IsRunnable}
-use Rattle.spec_world.specs.Worlds.{IsValidWorld}
+use Rattle.spec_world.specs.Runnable.{IsRunnableWorld}
 use Rattle.run_arena.specs.declared.nodes.Node.{Node}
 use Rattle.run_arena.specs.Rosters.{has_driver, leaves_in}
 use Rattle.run_loop.specs.declared.runs.ReadyRunner.{ReadyRunner}
@@ -23,9 +23,9 @@ leaves_within (r ∷ runners) most each =
     omega (arith, here, whole, spread, each 0 r refl, leaves_within runners most (λ k x at. each (suc k) x at))
 
 -- there are at most 16 runners, each with 4097 places
-pub leaves_are_few : (tree : Tree) (world : World) (facts : List ℤ) (drivers : List DriverState) (runners : List ReadyRunner) → IsRunnable tree → IsValidWorld world → RunnersFit tree world facts drivers runners →
+pub leaves_are_few : (tree : Tree) (world : World) (facts : List ℤ) (drivers : List DriverState) (runners : List ReadyRunner) → IsRunnable tree → IsRunnableWorld world → RunnersFit tree world facts drivers runners →
     leaves_of (arenas_in runners) ≤ 65552
-leaves_are_few tree world facts drivers runners runnable valid_world fit =
+leaves_are_few tree world facts drivers runners runnable runnable_world fit =
     let all : leaves_of (arenas_in runners) ≤ length runners * 4097 = leaves_within runners 4097 (λ k r at. omega (arith, (fit.each k r at).nodes, runnable.limits.nodes)) in
-    let most : length runners * 4097 ≤ 16 * 4097 = mul-le (length runners) 4097 16 4097 (omega (arith, fit.many, valid_world.few_runners)) (omega arith) in
+    let most : length runners * 4097 ≤ 16 * 4097 = mul-le (length runners) 4097 16 4097 (omega (arith, fit.many, runnable_world.few_runners)) (omega arith) in
     omega (arith, all, most)

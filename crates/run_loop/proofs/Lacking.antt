@@ -10,7 +10,6 @@ use Rattle.spec_tree.specs.declared.term.Tree.{Tree}
 use Rattle.spec_world.specs.declared.world.Event.{Event}
 use Rattle.spec_world.specs.declared.world.Row.{Row}
 use Rattle.spec_world.specs.declared.world.RowSort.{RowSort}
-use Rattle.spec_world.specs.declared.world.RowSort.TheVariants as sort
 use Rattle.spec_world.specs.declared.world.Telling.{Telling}
 use Rattle.spec_world.specs.declared.world.Telling.TheVariants as telling
 use Rattle.spec_world.specs.declared.world.What.{What}
@@ -18,33 +17,22 @@ use Rattle.spec_world.specs.declared.world.What.TheVariants.{Tick, Halt, Change,
 use Rattle.spec_world.specs.declared.world.World.{World}
 use Rattle.spec_world.specs.Worlds.{is_told, outs_told}
 use Rattle.spec_run.specs.Joins.{event_lacks, first_untold, is_leaf, lacks_output, lacks_telling, row_at, row_of_node}
-use Rattle.spec_run.specs.Leaf.{Rule, is_told_way, place_of, way_of}
+use Rattle.spec_run.specs.Leaf.{Rule, is_told_way, place_of}
 use Rattle.spec_run.specs.Leaves.{row_of}
 use Rattle.spec_run.specs.Run.{root_view}
 use Rattle.spec_run.specs.Sites.{View}
 use Rattle.spec_tree.specs.Terms.{node_count}
 use Rattle.spec_tree.specs.Trees.{Node as TreeNode, nodes_of}
-use Rattle.run_driver.specs.declared.sort.ReadySort.{ReadySort}
-use Rattle.run_driver.specs.declared.sort.ReadySort.TheVariants as ready
 use Rattle.run_driver.specs.Ready.{is_ready_told, ready_told}
 use Rattle.run_arena.specs.declared.nodes.Node.{Node}
 use Rattle.run_arena.specs.declared.nodes.ReadyLeaf.{ReadyLeaf}
 use Rattle.run_arena.specs.Nodes.{IsLeafOf, LeafStands, leaf_at, nobody}
 use Rattle.run_arena.specs.Stands.{Stands}
+use Rattle.run_nodes.proofs.Answering.{told_way}
 use Rattle.run_loop.specs.Fitting.{first_lack, leaf_lacks, names_lack, nodes_lack}
 use Rattle.run_loop.proofs.Matched.{all_said, matched, said_from}
 
 -- ---- The outputs for which a leaf may be told values
-
--- a row that was made ready answers by what it is told where the row does
-told_way : (places : List ℕ → ℕ) (s : RowSort) → is_told_way (way_of places s) ≡ is_told s
-told_way places sort.Sensed = refl
-told_way places (sort.Told outs) = refl
-told_way places (sort.Is fact op value) = refl
-told_way places (sort.When test) = refl
-told_way places (sort.Timed ms fails) = refl
-told_way places (sort.Replay ms outcomes) = refl
-told_way places (sort.Gate test) = refl
 
 -- the outputs for which values may be told; none where nothing may be told
 abbrev Names : Type 0

@@ -15,7 +15,7 @@ use Rattle.base_tables.specs.Sound.{RunSteady}
 use Rattle.spec_tree.specs.Terms.{node_count}
 use Rattle.base_tables.specs.Runnable.{IsRunnable}
 use Rattle.spec_run.specs.Visit.{idle}
-use Rattle.spec_world.specs.Worlds.{IsValidWorld}
+use Rattle.spec_world.specs.Runnable.{IsRunnableWorld}
 use Rattle.run_laws.proofs.Runs.{opening_steady}
 use Rattle.run_arena.specs.declared.nodes.Kept.{Kept}
 use Rattle.run_arena.specs.declared.nodes.Node.{Node}
@@ -145,8 +145,8 @@ module _ (tree : Tree) (world : World) (drivers : List DriverState) where
     as_many_facts = ap (λ (fs : List ℤ). length fs) are.facts ∙ length-map world.facts (λ (f : Fact). f.opening)
 
     -- they are runs
-    opening_runs : IsRunnable tree → IsValidWorld world → AreRuns tree world now runs
-    opening_runs runnable valid_world = record {
+    opening_runs : IsRunnable tree → IsRunnableWorld world → AreRuns tree world now runs
+    opening_runs runnable runnable_world = record {
       usable = are.usable;
       fit = record {
         many = are.many;
@@ -154,7 +154,7 @@ module _ (tree : Tree) (world : World) (drivers : List DriverState) where
         apart = are_apart tree world drivers runners are.runners;
         theirs = theirs;
         many_facts = as_many_facts;
-        few_facts = omega (arith, valid_world.facts.few, length-map world.facts (λ (f : Fact). f.name));
+        few_facts = omega (arith, runnable_world.facts.few, length-map world.facts (λ (f : Fact). f.name));
         few_slots = omega (arith, runnable.limits.slots);
       };
       told = are.told;
@@ -163,16 +163,16 @@ module _ (tree : Tree) (world : World) (drivers : List DriverState) where
     }
 
     -- the calls of their runners are those that the tree and the world give
-    opening_calls : IsValidWorld world → (calls : List RunnerCall) (ds : List DriverState) → roster_over (arenas_of runs) calls ds ≡ calls_made world.runners (serving_places tree world drivers) calls ds
-    opening_calls valid_world calls ds =
-        calls_are tree world drivers runners are.runners (omega (arith, are.many, valid_world.some_runner)) calls ds
+    opening_calls : IsRunnableWorld world → (calls : List RunnerCall) (ds : List DriverState) → roster_over (arenas_of runs) calls ds ≡ calls_made world.runners (serving_places tree world drivers) calls ds
+    opening_calls runnable_world calls ds =
+        calls_are tree world drivers runners are.runners (omega (arith, are.many, runnable_world.some_runner)) calls ds
         ∙ ap (λ n. calls_made n (serving_places tree world drivers) calls ds) are.many
 
     -- all of it
-    pub are_begun : IsRunnable tree → IsValidWorld world → AreBegun tree world drivers now runs
-    are_begun runnable valid_world = record {
-      runs = opening_runs runnable valid_world;
+    pub are_begun : IsRunnable tree → IsRunnableWorld world → AreBegun tree world drivers now runs
+    are_begun runnable runnable_world = record {
+      runs = opening_runs runnable runnable_world;
       opening = opening_state;
       prepared = refl;
-      calls = opening_calls valid_world;
+      calls = opening_calls runnable_world;
     }

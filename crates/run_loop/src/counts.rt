@@ -3,7 +3,7 @@ ghost use Rattle.spec_tree.specs.declared.term.Tree.{Tree};
 ghost use Rattle.spec_world.specs.declared.world.World.{World};
 ghost use Rattle.spec_run.specs.Drivers.{DriverState};
 ghost use Rattle.base_tables.specs.Runnable.{IsRunnable};
-ghost use Rattle.spec_world.specs.Worlds.{IsValidWorld};
+ghost use Rattle.spec_world.specs.Runnable.{IsRunnableWorld};
 ghost use Rattle.run_arena.specs.declared.nodes.ReadyLeaf.{ReadyLeaf};
 ghost use Rattle.run_arena.specs.Nodes.{leaf_at};
 ghost use Rattle.run_arena.specs.Rosters.{is_served_at, served};
@@ -21,7 +21,7 @@ use std::alloc::Global;
 pub fn leaves(runs: &Runs) -> usize
     ghost of: { Setup }
     requires tree { IsRunnable of.tree }
-    requires world { IsValidWorld of.world }
+    requires world { IsRunnableWorld of.world }
     requires runs { (drivers : List DriverState) × AreRuns of.tree of.world drivers runs.now }
     ensures { result ≡ leaves_of (arenas_of runs.now) }
 {
@@ -73,7 +73,7 @@ fn counts_of<D: Drivers>(
 
 /// For each driver, how many instances the runners of these runs need of it, or want of memory.
 pub fn wanted<D: Drivers>(alloc: Global, runs: &Runs, drivers: &D) -> Result<Vec<u32>, NoMemory>
-    requires { (tree : Tree) × (world : World) × IsRunnable tree × IsValidWorld world
+    requires { (tree : Tree) × (world : World) × IsRunnable tree × IsRunnableWorld world
         × AreOpeningRuns tree world (D.states drivers.now) runs.now }
     ensures { (tree : Tree) (world : World) → AreOpeningRuns tree world (D.states drivers.now) runs.now →
         IfOk result (λ counts. counts.items ≡ instances_wanted tree world (D.states drivers.now)) }

@@ -5,7 +5,7 @@ ghost use Rattle.spec_run.specs.Drivers.{DriverState};
 ghost use Rattle.spec_run.specs.Joins.{event_lacks, first_untold};
 ghost use Rattle.spec_run.specs.Served.{Setup};
 ghost use Rattle.spec_tree.specs.Trees.{nodes_of};
-ghost use Rattle.spec_world.specs.Worlds.{IsValidWorld};
+ghost use Rattle.spec_world.specs.Runnable.{IsRunnableWorld};
 ghost use Rattle.run_driver.specs.Ready.{ready_told};
 ghost use Rattle.run_loop.specs.Fitting.{first_lack, is_named, nodes_lack, sort_lacks};
 ghost use Rattle.run_loop.specs.Runs.{AreRuns};
@@ -69,7 +69,7 @@ fn fits_nodes(nodes: &[Node], event: &Event) -> Result<(), JoinFault>
 /// leaves are told what they answer and which has the outputs that are told. The fault is what is missing.
 pub fn event_fits(runs: &Runs, event: &Event) -> Result<(), JoinFault>
     ghost of: { Setup }
-    requires world { IsValidWorld of.world }
+    requires world { IsRunnableWorld of.world }
     requires runs { (drivers : List DriverState) × AreRuns of.tree of.world drivers runs.now }
     ensures { result_err result ≡ event_lacks of.world.rows (nodes_of of.tree.term) event.now.what }
 {
@@ -90,7 +90,7 @@ fn all_fit(nodes: &[Node], events: &[Event]) -> Result<(), JoinFault>
 /// Whether all of these events fit the tree of these runs. The fault is what is missing for the first one that does not.
 pub fn tellings_fit(runs: &Runs, events: &[Event]) -> Result<(), JoinFault>
     ghost of: { Setup }
-    requires world { IsValidWorld of.world }
+    requires world { IsRunnableWorld of.world }
     requires runs { (drivers : List DriverState) × AreRuns of.tree of.world drivers runs.now }
     ensures { result_err result ≡ first_untold of.world.rows (nodes_of of.tree.term) events.now }
 {

@@ -6,7 +6,7 @@ ghost use Rattle.base_tables.specs.SlotTables.{slot_table};
 ghost use Rattle.spec_run.specs.Drivers.{NothingHeld};
 ghost use Rattle.spec_tree.specs.Terms.{leaf_ids};
 ghost use Rattle.base_tables.specs.Runnable.{IsRunnable};
-ghost use Rattle.spec_world.specs.Worlds.{IsValidWorld};
+ghost use Rattle.spec_world.specs.Runnable.{IsRunnableWorld};
 ghost use Rattle.spec_run.specs.declared.join_fault.JoinFault.{JoinFault as Lack};
 ghost use Rattle.run_arena.specs.Joining.{Joins};
 ghost use Rattle.spec_run.specs.Joins.{first_missing};
@@ -31,10 +31,10 @@ use tree_board::Slots;
 /// Prepares the drivers for runs that were made for them, and gives these runs back. The error is want
 /// of memory, and then a prefix of the drivers may be prepared.
 fn prepared<D: Drivers>(alloc: Global, runs: Runs, drivers: &mut D) -> Result<Runs, NoMemory>
-    requires made { (tree : Modelled) × (world : Whole) × IsRunnable tree × IsValidWorld world
+    requires made { (tree : Modelled) × (world : Whole) × IsRunnable tree × IsRunnableWorld world
         × AreOpeningRuns tree world (D.states drivers.old) runs }
     requires quiet { NothingHeld (D.states drivers.old) }
-    ensures begun { (tree : Modelled) (world : Whole) → IsRunnable tree → IsValidWorld world →
+    ensures begun { (tree : Modelled) (world : Whole) → IsRunnable tree → IsRunnableWorld world →
         AreOpeningRuns tree world (D.states drivers.old) runs →
         IfOk result (AreBegun tree world (D.states drivers.old) (D.states drivers.new)) }
     ensures cut { (tree : Modelled) (world : Whole) → AreOpeningRuns tree world (D.states drivers.old) runs →
@@ -60,7 +60,7 @@ pub fn make_runs<D: Drivers>(
 ) -> Result<Runs, Stop<JoinFault>>
     requires tree { IsRunnable tree.now }
     requires slots { slots.now ≡ slot_table tree.now }
-    requires world { IsValidWorld world.now }
+    requires world { IsRunnableWorld world.now }
     requires quiet { NothingHeld (D.states drivers.old) }
     ensures fault { Joins result (first_missing world.now.rows (D.states drivers.old) (leaf_ids tree.now.term)) }
     ensures begun { IfOk result (AreBegun tree.now world.now (D.states drivers.old) (D.states drivers.new)) }
@@ -88,7 +88,7 @@ pub fn make_planned_runs<D: Drivers>(
 ) -> Result<Runs, NoMemory>
     requires tree { IsRunnable tree.now }
     requires slots { slots.now ≡ slot_table tree.now }
-    requires world { IsValidWorld world.now }
+    requires world { IsRunnableWorld world.now }
     requires alone { world.now.runners ≡ 1 }
     requires joined { first_missing world.now.rows (D.states drivers.old) (leaf_ids tree.now.term) ≡ None }
     requires quiet { NothingHeld (D.states drivers.old) }
@@ -116,7 +116,7 @@ pub fn runs_of(
 ) -> Result<Runs, Stop<JoinFault>>
     requires tree { IsRunnable tree.now }
     requires slots { slots.now ≡ slot_table tree.now }
-    requires world { IsValidWorld world.now }
+    requires world { IsRunnableWorld world.now }
     requires quiet { NothingHeld (map (λ b. state b) roster.old.items) }
     ensures fault { Joins result (first_missing world.now.rows (map (λ b. state b) roster.old.items) (leaf_ids tree.now.term)) }
     ensures begun { let before = map (λ b. state b) roster.old.items in

@@ -4,7 +4,7 @@ ghost use Rattle.base_tables.specs.SlotTables.{slot_table};
 ghost use Rattle.spec_run.specs.Drivers.{DriverState};
 ghost use Rattle.spec_tree.specs.Terms.{leaf_ids};
 ghost use Rattle.base_tables.specs.Runnable.{IsRunnable};
-ghost use Rattle.spec_world.specs.Worlds.{IsValidWorld};
+ghost use Rattle.spec_world.specs.Runnable.{IsRunnableWorld};
 ghost use Rattle.run_arena.specs.Joining.{Joins};
 ghost use Rattle.spec_run.specs.Joins.{first_missing};
 ghost use Rattle.run_loop.specs.Opening.{AreOpening, AreOpeningRuns, IsOpening};
@@ -78,7 +78,7 @@ fn runner_of<D: Drivers>(
 ) -> Result<ReadyRunner, Stop<JoinFault>>
     requires tree { IsRunnable tree.now }
     requires slots { slots.now ≡ slot_table tree.now }
-    requires world { IsValidWorld world.now }
+    requires world { IsRunnableWorld world.now }
     requires first { 1 ≤ number }
     requires last { number ≤ world.now.runners }
     ensures fault { Joins result (first_missing world.now.rows (D.states drivers.now) (leaf_ids tree.now.term)) }
@@ -100,7 +100,7 @@ fn runners_of<D: Drivers>(
 ) -> Result<Vec<ReadyRunner>, Stop<JoinFault>>
     requires tree { IsRunnable tree.now }
     requires slots { slots.now ≡ slot_table tree.now }
-    requires world { IsValidWorld world.now }
+    requires world { IsRunnableWorld world.now }
     ensures fault { Joins result (first_missing world.now.rows (D.states drivers.now) (leaf_ids tree.now.term)) }
     ensures many { IfOk result (λ runners. length runners.items ≡ world.now.runners) }
     ensures runners { IfOk result (λ runners. AreOpening tree.now world.now (D.states drivers.now) runners.items) }
@@ -141,7 +141,7 @@ pub fn opening_runs<D: Drivers>(
 ) -> Result<Runs, Stop<JoinFault>>
     requires tree { IsRunnable tree.now }
     requires slots { slots.now ≡ slot_table tree.now }
-    requires world { IsValidWorld world.now }
+    requires world { IsRunnableWorld world.now }
     ensures fault { Joins result (first_missing world.now.rows (D.states drivers.now) (leaf_ids tree.now.term)) }
     ensures runs { IfOk result (AreOpeningRuns tree.now world.now (D.states drivers.now)) }
 {
@@ -160,7 +160,7 @@ pub fn planned_runs<D: Drivers>(
 ) -> Result<Runs, NoMemory>
     requires tree { IsRunnable tree.now }
     requires slots { slots.now ≡ slot_table tree.now }
-    requires world { IsValidWorld world.now }
+    requires world { IsRunnableWorld world.now }
     requires alone { world.now.runners ≡ 1 }
     requires joined { first_missing world.now.rows (D.states drivers.now) (leaf_ids tree.now.term) ≡ None }
     ensures { IfOk result (AreOpeningRuns tree.now world.now (D.states drivers.now)) }

@@ -20,7 +20,7 @@ use Rattle.spec_world.specs.declared.world.ToldOut.{ToldOut}
 use Rattle.spec_world.specs.Worlds.{is_told, outs_told, ports_written}
 use Rattle.spec_run.specs.Done.{State}
 use Rattle.spec_run.specs.Drivers.{DriverState}
-use Rattle.spec_run.specs.Leaf.{Answered, Rule, asked, leaf_rule, padded, rule_answer, rule_of}
+use Rattle.spec_run.specs.Leaf.{Answered, Rule, asked, is_told_way, leaf_rule, padded, rule_answer, rule_of, way_of}
 use Rattle.spec_run.specs.Leaves.{called, inputs_of, instance_asked, instance_at, leaf_answered, phase_of, reply_board, row_of, sight, told_for, with_output, with_outputs, with_told, with_value}
 use Rattle.spec_run.specs.Ports.{given_at, value_at}
 use Rattle.spec_run.specs.Sites.{Meaning, Site, View}
@@ -40,6 +40,16 @@ use Rattle.run_arena.specs.Stands.{written}
 use Rattle.run_nodes.specs.Calls.{board_left, leaf_answer, leaf_written, number_written, outputs_written, seen_inputs, told_written, value_written, values_held}
 use Rattle.run_nodes.specs.Here.{FitsHere}
 use Rattle.run_nodes.proofs.PortValues.{given_means}
+
+-- the leaves of a row are told what they answer where its sort says so
+pub told_way : (places : List ℕ → ℕ) (s : RowSort) → is_told_way (way_of places s) ≡ is_told s
+told_way places sort.Sensed = refl
+told_way places (sort.Told outs) = refl
+told_way places (sort.Is fact op value) = refl
+told_way places (sort.When test) = refl
+told_way places (sort.Timed ms fails) = refl
+told_way places (sort.Replay ms outcomes) = refl
+told_way places (sort.Gate test) = refl
 
 -- an output is written where the definition writes it
 output_means : (site : Site) (given : Option PortValue) (n : ℤ) (board : List (Option Value)) → number_written (source_of site.view given) n board ≡ with_output site given n board

@@ -19,12 +19,14 @@ use Rattle.spec_run.specs.declared.status.Status.{Status}
 use Rattle.spec_tree.specs.declared.term.Term.{Term-F}
 use Rattle.spec_run.specs.Done.{Done, State}
 use Rattle.spec_run.specs.Drivers.{DriverState, is_held, roster_called}
-use Rattle.spec_run.specs.Leaf.{Answered, fresh, padded, start_of}
+use Rattle.spec_run.specs.Leaf.{Answered, Rule, fresh, is_told_way, padded, place_of, start_of}
 use Rattle.base_tables.specs.Outputs.{outputs_given, since_after}
 use Rattle.spec_run.specs.Leaves.{leaf_call, phase_of, replied, reply_answer, reply_notes, row_of}
 use Rattle.spec_run.specs.Sites.{Meaning, View}
 use Rattle.spec_run.specs.Steps.{Given}
 use Rattle.spec_run.specs.Visit.{site_of}
+use Rattle.spec_world.specs.Worlds.{is_told}
+use Rattle.run_driver.specs.Ready.{is_ready_told}
 use Rattle.run_driver.specs.Rules.{rule}
 use Rattle.base_tables.proofs.Asked.{asked_since}
 use Rattle.base_tables.proofs.Calls.{as_many_facts, held_while_running}
@@ -41,7 +43,7 @@ use Rattle.run_arena.specs.Sources.{IsSourceOf}
 use Rattle.run_arena.proofs.Called.{instance_at_uid, instances_called, marks_called, roster_after_call, served_after}
 use Rattle.run_nodes.specs.Calls.{CanBeCalled, IsInPhase, as_given, board_left, instance_kept, leaf_answer, mark_left, seen_inputs, values_held}
 use Rattle.run_nodes.specs.Here.{FitsHere, in_stop}
-use Rattle.run_nodes.proofs.Answering.{HasRow, answer_means, board_means, has_row, named_once}
+use Rattle.run_nodes.proofs.Answering.{HasRow, answer_means, board_means, has_row, named_once, told_way}
 
 -- nothing was done before there was want of memory
 pub cut_before : {A M : Type 0} (nodes : List Node) (now : ℕ) (read : List Kept → M) (r : Result A (Stop NodeFault)) (s : Scene) (old new : List Note) (d : Done A M) →
@@ -158,10 +160,12 @@ module _ (nodes : List Node) (uid : ℕ) (leaf : ReadyLeaf) (now : ℕ) (status 
 pub can_be_called : (term : Term-F Meaning) (view : View) (uid : ℕ) (nodes : List Node) (s : Scene) (leaf : ReadyLeaf) (status : Status) (now : ℕ) →
     FitsHere term view uid nodes s → leaf_at nodes uid ≡ Some leaf → IsInPhase status (leaf_instance s.drivers (Some leaf)) now → CanBeCalled (length s.board) (length s.facts) s.drivers status now leaf
 can_be_called term view uid nodes s leaf status now fits is phase =
-    let k = (has_row term view uid nodes s leaf fits is).follows in
+    let has = has_row term view uid nodes s leaf fits is in
+    let k = has.follows in
+    let told : is_ready_told leaf.row.sort ≡ is_told has.row.sort = ap (λ (r : Rule). is_told_way r.way) k.rule ∙ told_way (place_of has.row.ports view.facts) has.row.sort in
     record {
       read = subst (λ n. All (IsSourceOf n) leaf.inputs) (sym fits.slots) k.read;
-      few_inputs = omega (arith, k.few_inputs, ap length k.inputs, length-map {A = List ℕ} {B = Source});
+      few_inputs = λ other. let few = k.few_inputs (sym told ∙ other) in omega (arith, few, ap length k.inputs, length-map {A = List ℕ} {B = Source});
       written = subst (λ n. All (IsSourceOf n) leaf.outputs) (sym fits.slots) k.written;
       names = subst (IsDistinct bytes_eq) (sym k.told) k.once.distinct;
       table = fits.facts ∙ sym k.facts;

@@ -21,7 +21,7 @@ use Rattle.base_tables.specs.Outputs.{Outputs}
 use Rattle.spec_run.specs.Leaf.{Answered, asked, padded, rule_answer}
 use Rattle.spec_run.specs.Leaves.{phase_of, sight, told_for}
 use Rattle.spec_run.specs.Steps.{Given}
-use Rattle.run_driver.specs.Ready.{ready_told}
+use Rattle.run_driver.specs.Ready.{is_ready_told, ready_told}
 use Rattle.run_driver.specs.Rules.{rule}
 use Rattle.run_arena.specs.declared.nodes.ReadyLeaf.{ReadyLeaf}
 use Rattle.run_arena.specs.declared.source.Source.{Source}
@@ -78,7 +78,7 @@ IsInPhase _ instance now = instance.since ≡ None
 -- a leaf can be called over a board of this many slots and this many facts
 pub record CanBeCalled (slots facts : ℕ) (drivers : List DriverState) (status : Status) (now : ℕ) (leaf : ReadyLeaf) : Type 0 where
   pub read : All (IsSourceOf slots) leaf.inputs
-  pub few_inputs : length leaf.inputs ≤ 8
+  pub few_inputs : is_ready_told leaf.row.sort ≡ false → length leaf.inputs ≤ 8
   pub written : All (IsSourceOf slots) leaf.outputs
   pub names : IsDistinct bytes_eq (ready_told leaf.row.sort)
   pub table : facts ≡ leaf.row.facts

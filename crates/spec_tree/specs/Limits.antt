@@ -33,6 +33,14 @@ most_facts = 1024
 abbrev pub most_rows : ℕ
 most_rows = 1024
 
+-- the rows that are made for the leaves of a tree that is run without a world script
+abbrev pub most_made_rows : ℕ
+most_made_rows = 4096
+
+-- the input ports of such a row, and its outputs
+abbrev pub most_made_ports : ℕ
+most_made_ports = 64
+
 -- the goals of a world
 abbrev pub most_goals : ℕ
 most_goals = 64

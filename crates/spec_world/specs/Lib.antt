@@ -1,1 +1,2 @@
+pub mod Runnable
 pub mod Worlds

@@ -653,6 +653,10 @@ AfterContent r text said = MatchBool (is_ignored text) (said ≡ Ok r) (AfterFor
 abbrev pub AfterText : Reading → List ℕ → Result Reading WorldKind → Type 0
 AfterText r text said = AfterContent r (content text) said
 
+-- what lines of a host are read after: the facts and the moment that were read, and as many runners as there may be
+abbrev pub for_host : Reading → Reading
+for_host r = record nothing_read { facts = r.facts; runners = Some most_runners; moment = r.moment }
+
 -- ---- The world of a file
 
 -- the lines after one are read, or it is the first faulty one
@@ -693,3 +697,26 @@ LinesRead (first ∷ rest) said = MatchBool (bytes_eq (without_return first) (co
 -- the bytes of a file read as this world, or have this first faulty line
 abbrev pub ReadsWorld : List ℕ → Result World WorldFault → Type 0
 ReadsWorld bytes said = LinesRead (lines_in bytes) said
+
+-- ---- The world of a file that a host goes on from
+
+-- the world of what was read, and what lines of a host are read after
+abbrev pub script_after : Result Reading WorldFault → Result (World × Reading) WorldFault
+script_after (Ok r) = Ok (world_of r, for_host r)
+script_after (Err fault) = Err fault
+
+-- this is read of the lines of a file, of which the first is the header
+abbrev pub AllAfter : List (List ℕ) → Result Reading WorldFault → Type 0
+AllAfter [] after = after ≡ Err (record { line = 1; kind = Header })
+AllAfter (first ∷ rest) after =
+    MatchBool (bytes_eq (without_return first) (codes "bt-world 1")) (AfterLines 2 rest nothing_read after) (after ≡ Err (record { line = 1; kind = Header }))
+
+-- the lines of a file read as this world, and lines of a host are read after this; or one is the first faulty line
+pub record ScriptReads (texts : List (List ℕ)) (said : Result (World × Reading) WorldFault) : Type 0 where
+  pub after : Result Reading WorldFault
+  pub lines : AllAfter texts after
+  pub is : said ≡ script_after after
+
+-- .. those of these bytes
+abbrev pub ReadsScript : List ℕ → Result (World × Reading) WorldFault → Type 0
+ReadsScript bytes said = ScriptReads (lines_in bytes) said

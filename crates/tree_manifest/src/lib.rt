@@ -9,5 +9,5 @@ mod read;
 
 pub use attributes::attribute;
 pub use models::{Manifest, model};
-pub use names::is_port_name;
+pub use names::{can_be_written, is_port_name};
 pub use read::manifest_of;

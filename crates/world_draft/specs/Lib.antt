@@ -3,4 +3,5 @@ pub mod Lines
 pub mod Readings
 pub mod Rows
 pub mod Tables
+pub mod Taking
 pub mod Tellings

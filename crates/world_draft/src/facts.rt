@@ -10,6 +10,16 @@ use spec_world::Fact;
 use std::alloc::Global;
 use std::marker::Model;
 
+/// The same fact.
+fn copied(alloc: Global, fact: &Fact) -> Result<Fact, NoMemory>
+    ensures { IfOk result (λ copy. copy ≡ fact.now) }
+{
+    Ok(Fact {
+        name: fact.name.copy(alloc)?,
+        opening: fact.opening,
+    })
+}
+
 /// The facts so far, numbered from 0, with a look-up by name.
 #[derive(Drop)]
 pub struct Facts {
@@ -70,6 +80,17 @@ impl Facts {
     {
         let name = fact.name.copy(alloc)?;
         add(alloc, &mut self.map, name.list(), fact)
+    }
+
+    /// The same facts.
+    pub fn copy(&self, alloc: Global) -> Result<Facts, NoMemory>
+        ensures { IfOk result (λ facts. facts ≡ self.now) }
+    {
+        let mut facts = Facts::new(alloc);
+        for (_, fact) in self.map.iter() {
+            facts.add(alloc, copied(alloc, fact)?)?;
+        }
+        Ok(facts)
     }
 
     /// The facts in the order of their numbers.

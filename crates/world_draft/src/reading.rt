@@ -2,16 +2,19 @@ ghost use Rattle.std.specs.Prelude.{◌≡◌, ◌<◌, ◌≤◌, ◌==◌, ◌
 ghost use Rattle.std.specs.List.{list_any};
 ghost use Rattle.spec_world.specs.Worlds.{ids_of_rows};
 ghost use Rattle.spec_world_file.specs.WorldFile as file;
-ghost use Rattle.spec_world_file.specs.WorldFile.{closed, is_taken, knows_all, nothing_read, plain_row, repeats, row_with_fails, row_with_name, row_with_need, row_with_effect, row_with_out, runners_of, with_action, with_event, with_fact, with_goal, with_moment, with_open, with_row, with_runners, where_modelled, world_of};
+ghost use Rattle.spec_world_file.specs.WorldFile.{closed, is_taken, knows_all, for_host, nothing_read, plain_row, repeats, row_with_fails, row_with_name, row_with_need, row_with_effect, row_with_out, runners_of, with_action, with_event, with_fact, with_goal, with_moment, with_open, with_row, with_runners, where_modelled, world_of};
 ghost use Rattle.world_draft.specs.Readings.{Leaves};
 ghost use Rattle.world_draft.specs.Drafts.{row_of, Allowed, DraftSays, HeadChecked};
+ghost use Rattle.world_draft.specs.Taking.{TookEvent};
 
 use crate::draft::Draft;
 use crate::facts::Facts;
 use crate::knowing::knows_all;
 use crate::ports::Ports;
 use crate::rows::Rows;
-use base_tables::{MOST_EVENTS, MOST_FACTS, MOST_GOALS, MOST_PORTS, MOST_ROWS, is_reserved};
+use base_tables::{
+    MOST_EVENTS, MOST_FACTS, MOST_GOALS, MOST_PORTS, MOST_ROWS, MOST_RUNNERS, is_reserved,
+};
 use base_texts::{Items, Name, NoMemory, Stop};
 use spec_script::Expr;
 use spec_world::{Event, Fact, Out, Row, RowSort, Set, What, World};
@@ -71,6 +74,21 @@ impl Reading {
         }
     }
 
+    /// What lines of a host are read after: the facts and the moment that were read, and as many runners as there may be.
+    pub fn for_host(&self, alloc: Global) -> Result<Reading, NoMemory>
+        ensures { IfOk result (λ reading. reading ≡ for_host self.now) }
+    {
+        Ok(Reading {
+            facts: self.facts.copy(alloc)?,
+            rows: Rows::new(alloc),
+            draft: None,
+            goals: Vec::new(alloc),
+            runners: Some(MOST_RUNNERS),
+            events: Vec::new(alloc),
+            moment: self.moment,
+        })
+    }
+
     /// The world of all that was read, where no action is open.
     pub fn into_world(self, alloc: Global) -> Result<World, NoMemory>
         requires { self.open_row ≡ None }
@@ -123,6 +141,21 @@ impl Reading {
         ensures { result ≡ runners_of self.now }
     {
         self.runners.unwrap_or(1)
+    }
+
+    /// The moment to which the lines have gone.
+    pub fn moment(&self) -> u64
+        ensures { result ≡ self.now.moment }
+    {
+        self.moment
+    }
+
+    /// Takes the event that was read last, if one was.
+    pub fn take_event(&mut self) -> Option<Event>
+        ensures took { TookEvent self.old.events result self.new.events }
+        ensures kept { self.new ≡ record self.old { events = self.new.events } }
+    {
+        self.events.pop()
     }
 
     /// Whether an event was read.

@@ -1,3 +1,4 @@
 pub mod AboutUnique
 pub mod Onward
 pub mod Saying
+pub mod Scripts

@@ -11,5 +11,6 @@ mod read;
 mod tellings;
 mod unique;
 
-pub use read::read_world;
+pub use forms::read_text;
+pub use read::{read_script, read_world};
 pub use unique::{read_worlds_are_valid, worlds_read_one_way};

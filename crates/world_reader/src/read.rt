@@ -1,8 +1,8 @@
 ghost use Rattle.std.specs.Prelude.{◌≡◌, ◌≤◌, length, map, IfOk};
-ghost use Rattle.spec_world_file.specs.WorldFile.{AfterLines, LinesMake, LinesRead, ReadsWorld};
+ghost use Rattle.spec_world_file.specs.WorldFile.{AfterLines, LinesMake, LinesRead, ReadsScript, ReadsWorld, for_host, world_of};
 ghost use Rattle.spec_world.specs.Worlds.{IsValidWorld};
 ghost use Rattle.world_draft.specs.Readings.{Leaves};
-ghost use Rattle.world_reader.specs.Readings.{Gives};
+ghost use Rattle.world_reader.specs.Readings.{Gives, ScriptLines, ScriptMakes};
 ghost use Rattle.world_reader.specs.Readings as readings;
 
 use crate::forms::read_text;
@@ -46,16 +46,85 @@ fn world_following(alloc: Global, lines: &[&[u8]]) -> Result<World, Stop<WorldFa
 {
     let mut reading = Reading::new(alloc);
     match read_lines(alloc, &mut reading, lines) {
-        Ok(()) => match reading.close(alloc) {
-            Ok(()) => Ok(reading.into_world(alloc)?),
-            Err(NoMemory) => {
-                drop(reading);
-                Err(Stop::NoMemory)
-            }
-        },
+        Ok(()) => Ok(world_made(alloc, reading)?),
         Err(stop) => {
             drop(reading);
             Err(stop)
+        }
+    }
+}
+
+/// The world that a world script describes, and what the lines of a host are read after; or its first faulty line. The
+/// world is valid.
+pub fn read_script(alloc: Global, bytes: &[u8]) -> Result<(World, Reading), Stop<WorldFault>>
+    requires { length bytes.now ≤ 1048576 }
+    ensures reads { Gives result (ReadsScript bytes.now) }
+    ensures valid { IfOk result (λ read. IsValidWorld read.0) }
+{
+    read_worlds_are_valid();
+    let parts = parts(alloc, bytes, b'\n')?;
+    script_of(alloc, without_rest(parts.as_slice()))
+}
+
+/// The world of the lines of a file, and what the lines of a host are read after; or the first faulty line. The fault
+/// `Header` where the first line is not `bt-world 1`.
+fn script_of(alloc: Global, lines: &[&[u8]]) -> Result<(World, Reading), Stop<WorldFault>>
+    requires { length lines.now ≤ 1048577 }
+    ensures { Gives result (ScriptLines (map (λ text. text.now) lines.now)) }
+{
+    match lines {
+        [first, rest @ ..] if is(trimmed(first), "bt-world 1") => script_following(alloc, rest),
+        _ => Err(Stop::Fault(WorldFault {
+            line: 1,
+            kind: WorldKind::Header,
+        })),
+    }
+}
+
+/// The world of the lines after the header, and what the lines of a host are read after; or the first faulty line.
+fn script_following(alloc: Global, lines: &[&[u8]]) -> Result<(World, Reading), Stop<WorldFault>>
+    requires { length lines.now ≤ 1048577 }
+    ensures { Gives result (ScriptMakes (map (λ text. text.now) lines.now)) }
+{
+    let mut reading = Reading::new(alloc);
+    match read_lines(alloc, &mut reading, lines) {
+        Ok(()) => Ok(script_made(alloc, reading)?),
+        Err(stop) => {
+            drop(reading);
+            Err(stop)
+        }
+    }
+}
+
+/// The world of all that was read.
+fn world_made(alloc: Global, mut reading: Reading) -> Result<World, NoMemory>
+    ensures { IfOk result (λ world. world ≡ world_of reading) }
+{
+    match reading.close(alloc) {
+        Ok(()) => reading.into_world(alloc),
+        Err(NoMemory) => {
+            // What is large is dropped by a call, which is proved once.
+            drop(reading);
+            Err(NoMemory)
+        }
+    }
+}
+
+/// The world of all that was read, and what the lines of a host are read after.
+fn script_made(alloc: Global, reading: Reading) -> Result<(World, Reading), NoMemory>
+    ensures { IfOk result (λ made. made ≡ (world_of reading, for_host reading)) }
+{
+    match reading.for_host(alloc) {
+        Ok(after) => match world_made(alloc, reading) {
+            Ok(world) => Ok((world, after)),
+            Err(NoMemory) => {
+                drop(after);
+                Err(NoMemory)
+            }
+        },
+        Err(NoMemory) => {
+            drop(reading);
+            Err(NoMemory)
         }
     }
 }

@@ -9,7 +9,7 @@ use Rattle.plan_trial.proofs.trying.make_run.Goals as goal
 pub overflow_cast-count : goal.overflow_cast-count
 overflow_cast-count g c =
     let r = c.requires.1 in
-    omega (arith, c.leaves-count.ensures, leaves_are_few g.of.tree (modelled g.of.world) c.args.runs.facts _ c.args.runs.runners.items r.1.0 r.0.valid r.1.1.0.are.fit)
+    omega (arith, c.leaves-count.ensures, leaves_are_few g.of.tree (modelled g.of.world) c.args.runs.facts _ c.args.runs.runners.items r.1.0 r.0.runnable r.1.1.0.are.fit)
 
 pub returns-in_err-ticked-clause-ends : goal.returns-in_err-ticked-clause-ends
 returns-in_err-ticked-clause-ends g c =

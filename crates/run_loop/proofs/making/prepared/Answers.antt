@@ -38,10 +38,10 @@ returns-in_err-prepare-clause-totals g c = λ place.
     ap (λ ds. (driver_at ds place).totals) cut.1 ∙ prepared_totals drivers (take cut.0 c.as_slice.result.now) place
 
 pub returns-clause-begun : goal.returns-clause-begun
-returns-clause-begun g c = λ tree world runnable valid_world are.
+returns-clause-begun g c = λ tree world runnable runnable_world are.
     let drivers = g.D.Drivers.states c.args.drivers.now in
     let prepared = c.in_ok-prepare.ensures.ok ∙ ap (roster_prepared drivers) (c.as_slice.ensures.value ∙ c.in_ok-counts.ensures tree world are) in
-    subst (λ ds. AreBegun tree world drivers ds c.args.runs) (sym prepared) (are_begun tree world drivers c.args.runs are runnable valid_world)
+    subst (λ ds. AreBegun tree world drivers ds c.args.runs) (sym prepared) (are_begun tree world drivers c.args.runs are runnable runnable_world)
 
 pub returns-clause-roster : goal.returns-clause-roster
 returns-clause-roster g c =

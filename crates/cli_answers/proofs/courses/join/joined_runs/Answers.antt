@@ -1,11 +1,15 @@
 use Rattle.std.proofs.Common.{Some, None}
 use Rattle.std.proofs.lemmas.Result.{err_from_is_err_and}
+use Rattle.base_tables.proofs.Runnable.{runnable_world}
 use Rattle.cli_answers.proofs.AboutCourses.Runs.{leaves_lack, untold_lacks}
 use Rattle.cli_answers.proofs.courses.join.joined_runs.Goals as goal
 
+pub make_runs-requires-clause-world : goal.make_runs-requires-clause-world
+make_runs-requires-clause-world g c = runnable_world c.args.world.now c.requires.1.1.1.1.1.0
+
 pub tellings_fit-requires : goal.tellings_fit-requires
 tellings_fit-requires g c =
-    (rw c.requires.1.1.0 at c.requires.1.1.1.1.1.0, (g.D.Drivers.states c.make_runs.new.drivers, rw (c.requires.1.0, c.requires.1.1.0) at c.in_ok-runs.ensures.begun.runs))
+    (rw c.requires.1.1.0 at (runnable_world c.args.world.now c.requires.1.1.1.1.1.0), (g.D.Drivers.states c.make_runs.new.drivers, rw (c.requires.1.0, c.requires.1.1.0) at c.in_ok-runs.ensures.begun.runs))
 
 pub returns-in_err-runs-clause-fault : goal.returns-in_err-runs-clause-fault
 returns-in_err-runs-clause-fault g c =

@@ -3,7 +3,7 @@ use Rattle.std.specs.Prelude.{IfSome, option_map}
 use Rattle.std.specs.List.{prefix_len}
 use Rattle.std.proofs.lemmas.List.{append-nil, length-drop, map-append}
 use Rattle.spec_world.specs.declared.world.ToldOut.{ToldOut}
-use Rattle.spec_world_file.specs.WorldFile.{BeginsWith, ReadsOuts, ReadsTold, is_gap, without_gap}
+use Rattle.spec_world_file.specs.WorldFile.{BeginsWith, ReadsOuts, ReadsTold, is_gap}
 use Rattle.world_draft.specs.declared.lines.values.WrittenOut.{WrittenOut}
 use Rattle.world_draft.specs.Lines.Written.{FindsOut, seen_out}
 use Rattle.world_draft.proofs.AboutLines.Telling.{none_told, nothing_left, told_after, told_first, told_more}

@@ -30,12 +30,12 @@ use Rattle.spec_run.specs.Rules.RoundRobins.{next_of, passed_by, robin_after, ro
 use Rattle.spec_run.specs.Rules.Sequences.{index_of, passes, reactive_end, round, round_after, seen_of, sequence_end, with_memory_end}
 use Rattle.spec_run.specs.Rules.Turns.{limit_of, one_more, turn_after, turn_again, turns, turns_of, turns_on}
 use Rattle.spec_run.specs.Steps.{Child, Rule, child_at, is_completed, keep, over, reset, resets, visit, visit_or_pass}
-use Rattle.plan_trial.proofs.Claims.{ChildMeets, Claim, Meets, done_meets, follow_meets, resets_meet}
+use Rattle.run_laws.proofs.Claims.{ChildMeets, Claim, Meets, done_meets, follow_meets, resets_meet}
 
 module _ (claim : Claim) (ks : List Child) (each : (place : ℕ) → ChildMeets claim (child_at ks place)) where
   -- this rule meets the claim, with these children
   abbrev pub RuleMeets : Rule → Type 0
-  RuleMeets rule = (ms : List Memory) (s : State) → claim.state s → Meets claim (rule ks ms s)
+  RuleMeets rule = (ms : List Memory) (s : State) → claim.state s → Meets claim s (rule ks ms s)
 
   -- ---- Words
 
@@ -50,18 +50,18 @@ module _ (claim : Claim) (ks : List Child) (each : (place : ℕ) → ChildMeets 
   unfolding visit
   visit_meets place go goes = λ ms s fits.
       let d : Done Answer (List Memory) = (child_at ks place).visit ms s in
-      follow_meets claim d (λ ms1. ms1) (λ a ms1 s1. go a ks ms1 s1) ((each place).visit ms s fits) (λ a. goes a d.memory d.state)
+      follow_meets claim s d (λ ms1. ms1) (λ a ms1 s1. go a ks ms1 s1) ((each place).visit ms s fits) (λ a. goes a d.memory d.state)
 
   pass_meets : (place : ℕ) (passed : Rule) (go : Answer → Rule) → RuleMeets passed → RuleMeets (visit place go) → RuleMeets (visit_or_pass place passed go)
   unfolding visit_or_pass
   pass_meets place passed go passes goes = λ ms s fits.
-      cond_both (is_completed ((child_at ks place).status ms)) (passed ks ms s) (visit place go ks ms s) (λ d. Meets claim d) (λ _. passes ms s fits) (λ _. goes ms s fits)
+      cond_both (is_completed ((child_at ks place).status ms)) (passed ks ms s) (visit place go ks ms s) (λ d. Meets claim s d) (λ _. passes ms s fits) (λ _. goes ms s fits)
 
   reset_meets : (span : Span) (rule : Rule) → RuleMeets rule → RuleMeets (reset span rule)
   unfolding reset
   reset_meets span rule meets = λ ms s fits.
       let d : Done (Unit {0}) (List Memory) = resets span ks 0 ms s in
-      follow_meets claim d (λ ms1. ms1) (λ _ ms1 s1. rule ks ms1 s1) (resets_meet claim span ks 0 ms s each fits) (λ _. meets d.memory d.state)
+      follow_meets claim s d (λ ms1. ms1) (λ _ ms1 s1. rule ks ms1 s1) (resets_meet claim span ks 0 ms s each fits) (λ _. meets d.memory d.state)
 
   over_meets : (a : Answer) → RuleMeets (over a)
   over_meets a = reset_meets span.All (keep a Nothing) (keep_meets a Nothing)
