@@ -1,10 +1,11 @@
 //! `bt` ticks a behavior tree over the events of a world script and prints the trace.
 #![tactic(auto)]
 
-use base_outside::{DirShelf, HostClock, OutSink};
+use base_outside::{DirShelf, HostClock, InLines, OutSink, Sink};
 use base_texts::{Name, NoMemory};
 use cli_program::{add_driver, bt};
-use cli_words::{NoWords, words_of};
+use cli_serve::serve_files;
+use cli_words::{NoWords, Serve, read_serve, words_of};
 use run_driver::Driver;
 use run_leaves::{Conditions, Gate, Replay, Timed, Told};
 use spec_program::Exit;
@@ -12,8 +13,12 @@ use std::io;
 use std::process::ExitCode;
 use std::rt::{Clock, Files};
 
-/// Makes the shelf, the sink, the clock and the drivers of the host, and answers the words over them.
-fn run(rt: &(impl Files + Print + Clock + AllocGlobal), words: &[Name]) -> Result<Exit, NoMemory> {
+/// Makes the shelf, the clock and the drivers of the host, and answers the words over them.
+fn run<K: Sink>(
+    rt: &(impl Files + Clock + AllocGlobal),
+    words: &[Name],
+    out: &mut K,
+) -> Result<Exit, NoMemory> {
     let alloc = rt.alloc();
     let mut roster: Vec<Box<dyn Driver>> = Vec::new(alloc);
     add_driver(&mut roster, Box::new(alloc, Conditions::new(alloc))?)?;
@@ -22,9 +27,32 @@ fn run(rt: &(impl Files + Print + Clock + AllocGlobal), words: &[Name]) -> Resul
     add_driver(&mut roster, Box::new(alloc, Gate::new(alloc))?)?;
     add_driver(&mut roster, Box::new(alloc, Told::new(alloc))?)?;
     let mut shelf = DirShelf::new(rt);
-    let mut out = OutSink::new(alloc, io::writer(rt))?;
     let mut clock = HostClock::new(rt);
-    let exit = bt(alloc, words, &mut shelf, &mut out, &mut clock, &mut roster);
+    Ok(bt(alloc, words, &mut shelf, out, &mut clock, &mut roster))
+}
+
+/// Makes the shelf and the input of the host, and serves what the words name over them.
+fn serve<K: Sink>(
+    rt: &(impl Files + Input + AllocGlobal),
+    serve: Serve,
+    out: &mut K,
+) -> Result<Exit, NoMemory> {
+    let alloc = rt.alloc();
+    let mut shelf = DirShelf::new(rt);
+    let mut lines = InLines::new(alloc, rt.reader())?;
+    Ok(serve_files(alloc, serve, &mut shelf, &mut lines, out))
+}
+
+/// Makes the sink of the host, and answers the words over it.
+fn answer(
+    rt: &(impl Files + Print + Input + Clock + AllocGlobal),
+    words: &[Name],
+) -> Result<Exit, NoMemory> {
+    let mut out = OutSink::new(rt.alloc(), io::writer(rt))?;
+    let exit = match read_serve(words) {
+        Some(served) => serve(rt, served, &mut out)?,
+        None => run(rt, words, &mut out)?,
+    };
     // A write that fails only when all is handed on is a write that failed.
     match out.flush() {
         Ok(()) => Ok(exit),
@@ -40,6 +68,6 @@ fn main(rt: HostRuntime) -> ExitCode {
         Err(NoWords::NotUtf8) => Vec::new(rt.alloc()),
         Err(NoWords::NoMemory) => return ExitCode::from(Exit::Memory.status()),
     };
-    let exit = run(&rt, words.as_slice()).unwrap_or(Exit::Memory);
+    let exit = answer(&rt, words.as_slice()).unwrap_or(Exit::Memory);
     ExitCode::from(exit.status())
 }

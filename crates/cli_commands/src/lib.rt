@@ -7,3 +7,4 @@ mod mocking;
 mod reading;
 
 pub use command::run_words;
+pub use reading::read_named;

@@ -74,7 +74,7 @@ fn read_file<S: Shelf>(
 }
 
 /// Reads this one of the files of a command, if it names it.
-fn read_named<S: Shelf>(
+pub fn read_named<S: Shelf>(
     alloc: Global,
     file: File,
     name: Option<&Name>,

@@ -278,6 +278,7 @@ gave_within o exit.Read a b p = left_within o.drivers a.drivers b.drivers p.2
 gave_within o exit.Write a b p = p.1.drivers
 gave_within o exit.Memory a b p = p.drivers
 gave_within o exit.Rules a b p = left_within o.drivers a.drivers b.drivers p.2
+gave_within o exit.Request a b p = left_within o.drivers a.drivers b.drivers p.2
 
 unread_uncalled : (f : File) (old new : List DriverState) → Within old new (unread f) → AreUncalled old new
 unread_uncalled file.Tree old new p = p
@@ -304,6 +305,7 @@ gave_unasked o exit.NoPlan a b never p = subst (λ (k : Asked). ClockLeft k a.cl
 gave_unasked o exit.Read a b never p = subst (λ (k : Asked). ClockLeft k a.clock b.clock) never p.3
 gave_unasked o exit.Write a b never p = subst (λ (k : Asked). ClockWithin k a.clock b.clock) never p.1.clock
 gave_unasked o exit.Rules a b never p = subst (λ (k : Asked). ClockLeft k a.clock b.clock) never p.3
+gave_unasked o exit.Request a b never p = subst (λ (k : Asked). ClockLeft k a.clock b.clock) never p.3
 gave_unasked o exit.Memory a b never p = subst (λ (k : Asked). ClockWithin k a.clock b.clock) never p.clock
 
 pub unread_unasked : (f : File) → IsUnasked (unread f)

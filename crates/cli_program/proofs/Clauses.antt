@@ -184,6 +184,7 @@ whole_given o exit.Read a b i p = absurd i
 whole_given o exit.Write a b i p = absurd i
 whole_given o exit.Memory a b i p = absurd i
 whole_given o exit.Rules a b i p = p
+whole_given o exit.Request a b i p = p
 
 -- where the sink's count did not rise, the output is whole or memory ran out
 whole_or_memory : (o : Output) (result : Exit) (a b : Side) → (Rose a.faults b.faults → ⊥) → Gave o result a b → (result ≡ exit.Memory) ⊎ IsWhole o result a b
@@ -197,6 +198,7 @@ whole_or_memory o exit.Read a b n p = inr p
 whole_or_memory o exit.Write a b n p = absurd (n p.0)
 whole_or_memory o exit.Memory a b n p = inl refl
 whole_or_memory o exit.Rules a b n p = inr p
+whole_or_memory o exit.Request a b n p = inr p
 
 -- where a write failed the sink's count rose
 write_gave : (o : Output) (result : Exit) (a b : Side) → result ≡ exit.Write → Gave o result a b → Rose a.faults b.faults

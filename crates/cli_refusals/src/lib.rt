@@ -6,4 +6,5 @@ mod line;
 mod refusal;
 
 pub use lent::Outside;
+pub use line::kind_word;
 pub use refusal::{Refusal, write_refusal};

@@ -130,7 +130,7 @@ pub fn tree_refusal(alloc: Global, fault: &TreeFault) -> Result<Vec<u8>, NoMemor
 }
 
 /// The word for what is wrong with a world script.
-fn kind_word(kind: WorldKind) -> &'static [u8]
+pub fn kind_word(kind: WorldKind) -> &'static [u8]
     ensures { result.now ≡ kind_word kind }
 {
     match kind {

@@ -3,4 +3,4 @@
 
 mod words;
 
-pub use words::{Command, NoWords, read_command, word_of, words_of};
+pub use words::{Command, NoWords, Serve, read_command, read_serve, word_of, words_of};

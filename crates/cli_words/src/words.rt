@@ -2,7 +2,9 @@ ghost use Rattle.std.specs.Prelude.{◌≡◌, ◌≤◌, ◌↔◌, IfOk, IfSom
 ghost use Rattle.std.specs.IoError.{error_kind};
 ghost use Rattle.std.specs.Option.{option_copied};
 ghost use Rattle.cli_words.specs.Commands.{AreLimits, IsInRange, command_seen};
-ghost use Rattle.spec_program.specs.Words.{are_options, as_count, check_of, command_of, dead_of, ground_of, ground_plan_of, in_range, is_option, is_unset, limited_words, live_of, load_of, main_in, mock_of, mock_print_of, mock_run_of, number_or, plan_of, rounds_in, tick_of, value_of, without_strict};
+ghost use Rattle.cli_words.specs.Serving.{serve_seen};
+ghost use Rattle.spec_program.specs.Words as definition;
+ghost use Rattle.spec_program.specs.Words.{are_options, as_count, check_of, command_of, dead_of, ground_of, ground_plan_of, in_range, is_option, is_unset, limited_words, live_of, load_of, main_in, mock_of, mock_print_of, mock_run_of, number_or, plan_of, rounds_in, serve_of, tick_of, value_of, without_strict};
 ghost use Rattle.spec_tree.specs.Limits.{most_leaves, most_rounds};
 ghost use Rattle.spec_tree.specs.Numbers.{int_in};
 
@@ -429,6 +431,56 @@ pub fn read_command<'a>(words: &'a [Name]) -> Option<Command<'a>>
         read_ground_plan(words)
     } else {
         None
+    }
+}
+
+/// What is served: the files that the words name, the world's only where there is one, and the ID of the main tree where
+/// they name one.
+#[derive(Clone, Copy)]
+pub struct Serve<'a> {
+    pub tree: &'a Name,
+    pub world: Option<&'a Name>,
+    pub main: Option<&'a Name>,
+}
+
+/// A tree that is served, in a world where there is one, with these options.
+fn served<'a>(tree: &'a Name, world: Option<&'a Name>, options: &'a [Name]) -> Option<Serve<'a>>
+    ensures { MatchOption result (definition.served tree.now (option_copied world.entry) options.now ≡ None)
+        (λ s. definition.served tree.now (option_copied world.entry) options.now ≡ Some (serve_seen s)) }
+{
+    if !are_options(options, Options::Main) {
+        return None;
+    }
+    Some(Serve {
+        tree,
+        world,
+        main: main_of(options),
+    })
+}
+
+/// What the words after `serve` name.
+fn served_by<'a>(words: &'a [Name]) -> Option<Serve<'a>>
+    ensures { MatchOption result (definition.served_by words.now ≡ None)
+        (λ s. definition.served_by words.now ≡ Some (serve_seen s)) }
+{
+    let [tree, rest @ ..] = words else {
+        return None;
+    };
+    match rest {
+        [word, options @ ..] if word.list() != b"--main".as_slice() => {
+            served(tree, Some(word), options)
+        }
+        _ => served(tree, None, rest),
+    }
+}
+
+/// What is served where the words are `serve` and what it takes.
+pub fn read_serve<'a>(words: &'a [Name]) -> Option<Serve<'a>>
+    ensures { MatchOption result (serve_of words.now ≡ None) (λ s. serve_of words.now ≡ Some (serve_seen s)) }
+{
+    match words {
+        [word, words @ ..] if word.list() == b"serve".as_slice() => served_by(words),
+        _ => None,
     }
 }
 

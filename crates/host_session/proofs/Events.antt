@@ -13,7 +13,7 @@ use Rattle.spec_run.specs.Served.{Setup}
 use Rattle.spec_tree.specs.declared.term.Tree.{Tree}
 use Rattle.spec_tree.specs.Terms.{node_count}
 use Rattle.spec_world.specs.declared.world.Event.{Event}
-use Rattle.spec_world.specs.Worlds.{IsValidWorld}
+use Rattle.spec_world.specs.Runnable.{IsRunnableWorld}
 use Rattle.base_tables.specs.Runnable.{IsRunnable}
 use Rattle.base_tables.specs.SlotTables.{slot_table}
 use Rattle.run_arena.specs.declared.nodes.Node.{Node}
@@ -93,10 +93,10 @@ MadeBy s seen step_of made new = EventLeft (setup_of seen) made (side_of s) new 
 
 -- and so for a tree in a world that are given
 module _ (of : Setup) (s : Inside) (seen : Sitting) (same : sitting_of s ≡ seen) (ready : IsReady s) (is : of ≡ setup_of seen) where
-  pub given_world : IsValidWorld of.world
+  pub given_world : IsRunnableWorld of.world
   given_world =
-      let P : Sitting → Type 0 = λ x. IsValidWorld x.world in
-      subst (λ (x : Setup). IsValidWorld x.world) (sym is) (subst P same ready.world)
+      let P : Sitting → Type 0 = λ x. IsRunnableWorld x.world in
+      subst (λ (x : Setup). IsRunnableWorld x.world) (sym is) (subst P same ready.world)
 
   pub given_runs : seen.usable ≡ true → AreRuns of.tree of.world (states_of s.five) s.runs
   given_runs usable = subst (λ (x : Setup). AreRuns x.tree x.world (states_of s.five) s.runs) (sym is) (seen_runs s seen same ready usable)
@@ -122,7 +122,7 @@ made_ready s seen step_of made after same ready left tree world slots labelled =
     let of : Setup = setup_of (sitting_of s) in
     record {
       tree = subst IsRunnable (sym tree) ready.tree;
-      world = subst IsValidWorld (sym world) ready.world;
+      world = subst IsRunnableWorld (sym world) ready.world;
       slots = slots ∙ (ready.slots ∙ ap slot_table (sym tree));
       labels = ap (λ (v : Vec Label Global). v.items) labelled ∙ (ready.labels ∙ ap labels (sym tree));
       nodes = subst (λ (t : Tree). All (λ (nodes : List Node). length nodes ≡ 1 + node_count t.term) (arenas_of after.runs)) (sym tree)

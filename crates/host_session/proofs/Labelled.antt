@@ -1,8 +1,10 @@
 -- What is told of the nodes of a term, one after another.
-use Rattle.std.proofs.Common.{◌≡◌, ℕ, ◌+◌, ◌<◌, List, [], ◌∷◌, ◌++◌, length, map, drop, get_or, sym, ap, ◌∙◌, append_assoc, arith}
+use Rattle.std.proofs.Common.{◌≡◌, ℕ, suc, ◌+◌, ◌<◌, List, [], ◌∷◌, ◌++◌, length, map, sum, drop, get_or, refl, sym, ap, subst, ◌∙◌, append_assoc, arith}
 use Rattle.std.proofs.lemmas.List.{drop_more}
+use Rattle.std.proofs.lemmas.List.Sums.{sum_by-cons}
 use Rattle.std.proofs.Math.ListN.{length-append}
-use Rattle.spec_tree.specs.declared.term.Term.{Term, fold_out-Term, out-Term}
+use Rattle.spec_tree.specs.declared.term.Term.{Term, Term-F, fold_out-Term, fold-roll-Term, ind-Term, out-Term, roll-Term}
+use Rattle.spec_tree.specs.Terms.{node_count}
 use Rattle.spec_tree.specs.Boards.{children_scope_number}
 use Rattle.spec_tree_file.specs.Substitutions.{inside}
 use Rattle.spec_session.specs.declared.label.Label.{Label}
@@ -40,3 +42,30 @@ next_labels before after children i child scope above there is made =
     ∙ append_assoc before mine (rest ((length before + 1) + length mine))
     ∙ sym (ap (λ (ts : List Term). before ++ labels_all (map labels_from ts) (length before + 1) scope above)
     (drop_more children i child there ∙ ap (λ (t : Term). t ∷ drop (i + 1) children) (sym is)))
+
+-- ---- As many labels as nodes
+
+abbrev AreCounted : Term → Type 0
+AreCounted t = (uid scope : ℕ) (above : List ℕ) → length (labels_from t uid scope above) ≡ node_count t
+
+all_counted : (ts : List ((t : Term) × AreCounted t)) (uid scope : ℕ) (above : List ℕ) →
+    length (labels_all (map labels_from (map (λ e. e.0) ts)) uid scope above) ≡ sum (map node_count (map (λ e. e.0) ts))
+all_counted [] uid scope above = refl
+all_counted (e ∷ ts) uid scope above =
+    let first = labels_from e.0 uid scope above in
+    let rest = map (λ x. x.0) ts in
+    let mine : length first ≡ node_count e.0 = e.1 uid scope above in
+    let others : length (labels_all (map labels_from rest) (uid + length first) scope above) ≡ sum (map node_count rest) = all_counted ts (uid + length first) scope above in
+    omega (arith, length-append first (labels_all (map labels_from rest) (uid + length first) scope above), sum_by-cons (λ (k : ℕ). k) (node_count e.0) (map node_count rest))
+
+-- each node has a label
+pub labels_counted : (t : Term) (uid scope : ℕ) (above : List ℕ) → length (labels_from t uid scope above) ≡ node_count t
+labels_counted = ind-Term AreCounted (λ x y is uid scope above.
+    let inner = children_scope_number x.kind uid scope in
+    let path = inside x.kind x.name above in
+    let below : length (labels_all (map labels_from x.children) (uid + 1) inner path) ≡ sum (map node_count x.children) =
+    subst (λ (z : Term-F Term). length (labels_all (map labels_from z.children) (uid + 1) inner path) ≡ sum (map node_count z.children)) is (all_counted y.children (uid + 1) inner path) in
+    let whole : length (labels_from (roll-Term x) uid scope above) ≡ suc (length (labels_all (map labels_from x.children) (uid + 1) inner path)) =
+    ap (λ (f : ℕ → ℕ → List ℕ → List Label). length (f uid scope above)) (fold-roll-Term (ℕ → ℕ → List ℕ → List Label) labels_step x) in
+    let count : node_count (roll-Term x) ≡ 1 + sum (map node_count x.children) = fold-roll-Term ℕ (λ (node : Term-F ℕ). 1 + sum node.children) x in
+    omega arith)

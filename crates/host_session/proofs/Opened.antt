@@ -9,7 +9,8 @@ use Rattle.spec_run.specs.Drivers.{DriverState}
 use Rattle.spec_tree.specs.declared.term.Tree.{Tree}
 use Rattle.spec_tree.specs.Terms.{node_count}
 use Rattle.spec_world.specs.declared.world.World.{World}
-use Rattle.spec_world.specs.Worlds.{IsValidEvent, IsValidWorld}
+use Rattle.spec_world.specs.Runnable.{IsRunnableWorld}
+use Rattle.spec_world.specs.Worlds.{IsValidEvent}
 use Rattle.run_arena.specs.declared.nodes.Node.{Node}
 use Rattle.run_loop.specs.declared.runs.ReadyRunner.{ReadyRunner}
 use Rattle.run_loop.specs.declared.runs.Runs.{Runs}
@@ -20,8 +21,8 @@ use Rattle.run_loop.specs.Runs.{AreRuns, RunnerFits, arenas_of}
 abbrev pub bare : World → World
 bare world = record world { events = [] }
 
-pub bare_valid : (w : World) → IsValidWorld w → IsValidWorld (bare w)
-bare_valid w h = record {
+pub bare_runnable : (w : World) → IsRunnableWorld w → IsRunnableWorld (bare w)
+bare_runnable w h = record {
   facts = h.facts;
   openings = h.openings;
   ids = h.ids;

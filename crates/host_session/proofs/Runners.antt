@@ -1,17 +1,21 @@
 -- The runner of a number, and what is read of it.
-use Rattle.std.proofs.Common.{◌≡◌, ℕ, zero, suc, ◌+◌, List, [], map, length, Option, Some, None, refl, sym, ap, subst, ◌∙◌}
+use Rattle.std.proofs.Common.{◌≡◌, ℕ, zero, suc, ◌+◌, ◌<◌, List, [], map, length, get_or, Option, Some, None, refl, sym, ap, subst, ◌∙◌, arith}
 use Rattle.std.specs.Prelude.{option_and_then, option_map, slice_get}
 use Rattle.std.specs.List.{All}
+use Rattle.std.proofs.lemmas.List.{get_or_past, length-map}
 use Rattle.std.proofs.lemmas.Option.{get_or_from_slice_get, slice_get-map, slice_get_within}
+use Rattle.spec_run.specs.declared.leaf.Instance.{Instance}
+use Rattle.spec_run.specs.Leaf.{fresh}
 use Rattle.spec_run.specs.Drivers.{DriverState}
 use Rattle.spec_run.specs.Run.{Runner}
 use Rattle.spec_tree.specs.declared.term.Term.{Term}
 use Rattle.spec_tree.specs.Terms.{node_count}
 use Rattle.run_arena.specs.declared.nodes.Node.{Node}
+use Rattle.run_arena.specs.Rosters.{instances_of, leaf_instance}
 use Rattle.run_loop.specs.declared.runs.ReadyRunner.{ReadyRunner}
 use Rattle.run_loop.specs.Runs.{arenas_in, runner_in, runners_in}
 use Rattle.host_session.specs.Numbered.{numbered}
-use Rattle.host_session.specs.Reads.{statuses}
+use Rattle.host_session.specs.Reads.{inputs_by, statuses}
 use Rattle.host_session.specs.Statuses.{status_at}
 use Rattle.host_session.proofs.Statuses.{nth_status}
 
@@ -34,3 +38,16 @@ pub status_there : (term : Term) (drivers : List DriverState) (runners : List Re
 status_there term drivers runners n r uid is many =
     ap (option_and_then (λ (q : Runner). numbered (statuses q.memory) uid)) (numbered-map (runner_in term drivers) runners n ∙ ap (option_map (runner_in term drivers)) (sym is))
     ∙ nth_status term r.arena.nodes.items r.arena.kept.items uid many
+
+-- nothing is kept for one that is not there
+pub inputs_nowhere : (term : Term) (drivers : List DriverState) (runners : List ReadyRunner) (n uid : ℕ) → None ≡ numbered runners n →
+    inputs_by (numbered (runners_in term drivers runners) n) uid ≡ []
+inputs_nowhere term drivers runners n uid is =
+    ap (λ (r : Option Runner). inputs_by r uid) (numbered-map (runner_in term drivers) runners n ∙ ap (option_map (runner_in term drivers)) (sym is))
+
+-- nothing is kept of a node after the last one
+pub inputs_past : (nodes : List Node) (drivers : List DriverState) (count uid : ℕ) → length nodes ≡ 1 + count → count < uid →
+    (get_or (instances_of nodes drivers) uid fresh).inputs ≡ []
+inputs_past nodes drivers count uid many past =
+    ap (λ (i : Instance). i.inputs)
+    (get_or_past (instances_of nodes drivers) uid fresh (omega (arith, length-map nodes (λ (node : Node). leaf_instance drivers node.leaf))))

@@ -4,7 +4,7 @@ use Rattle.std.specs.List.{All}
 use Rattle.spec_tree.specs.declared.term.Tree.{Tree}
 use Rattle.spec_world.specs.declared.world.Event.{Event}
 use Rattle.spec_world.specs.declared.world.World.{World}
-use Rattle.spec_world.specs.Worlds.{IsValidWorld}
+use Rattle.spec_world.specs.Runnable.{IsRunnableWorld}
 use Rattle.base_tables.specs.Runnable.{IsRunnable}
 use Rattle.base_tables.specs.SlotTables.{slot_table}
 use Rattle.spec_tree.specs.Terms.{node_count}
@@ -36,12 +36,12 @@ side_of s = event_side (states_of s.five) s.runs s.block
 abbrev pub sitting_of : Inside → Sitting
 sitting_of s = sitting s.tree s.world s.own.items (side_of s)
 
--- what holds of every session: its tree can be run, its world is valid, its slots and its labels are those of its tree,
+-- what holds of every session: its tree and its world can be run, its slots and its labels are those of its tree,
 -- each runner has the nodes of its tree beside place 0, its block has room for a quench, and as long as events are taken
 -- its runs are those of its tree in its world
 pub record IsReady (s : Inside) : Type 0 where
   pub tree : IsRunnable s.tree
-  pub world : IsValidWorld s.world
+  pub world : IsRunnableWorld s.world
   pub slots : s.slots ≡ slot_table s.tree
   pub labels : s.labels.items ≡ labels s.tree
   pub nodes : All (λ (nodes : List Node). length nodes ≡ 1 + node_count s.tree.term) (arenas_of s.runs)

@@ -3,7 +3,7 @@ ghost use Rattle.std.specs.Option.{option_copied};
 ghost use Rattle.base_texts.specs.Stops.{Gives};
 ghost use Rattle.spec_tree.specs.Limits.{most_file_bytes};
 ghost use Rattle.spec_tree.specs.Trees.{IsValid, nodes_of};
-ghost use Rattle.spec_world.specs.Worlds.{IsValidWorld};
+ghost use Rattle.spec_world.specs.Runnable.{IsRunnableWorld};
 ghost use Rattle.spec_run.specs.Drivers.{DriverState};
 ghost use Rattle.spec_run.specs.Joins.{first_untold, lack_of};
 ghost use Rattle.spec_run.specs.Served.{Setup};
@@ -60,7 +60,7 @@ fn first_block(alloc: Global, runs: &Runs, events: &[Event]) -> Result<Block, St
     ghost of: { Setup }
     requires events { of.world.events ≡ events.now }
     requires tree { IsRunnable of.tree }
-    requires world { IsValidWorld of.world }
+    requires world { IsRunnableWorld of.world }
     requires runs { (drivers : List DriverState) × AreRuns of.tree of.world drivers runs.now }
     ensures lack { Joins result (first_untold of.world.rows (nodes_of of.tree.term) of.world.events) }
     ensures seen { IfOk result (λ block. seen block ≡ no_block) }
@@ -83,7 +83,7 @@ fn join(alloc: Global, tree: Tree, world: World) -> Result<Session, Stop<JoinFau
     ghost of: { Setup }
     requires of { of ≡ record { tree = tree; world = world } }
     requires tree { IsRunnable tree }
-    requires world { IsValidWorld world }
+    requires world { IsRunnableWorld world }
     ensures lack { Joins result (lack_of tree world new_drivers) }
     ensures opened { IfOk result (λ session. session ≡ opened tree world) }
 {
@@ -109,7 +109,7 @@ fn join(alloc: Global, tree: Tree, world: World) -> Result<Session, Stop<JoinFau
 /// The session of a tree in a world before its first event; the fault is what is missing.
 fn session_in(alloc: Global, tree: Tree, world: World) -> Result<Session, Stop<OpenFault>>
     requires tree { IsRunnable tree }
-    requires world { IsValidWorld world }
+    requires world { IsRunnableWorld world }
     ensures { Gives result (joined (lack_of tree world new_drivers) tree world) }
 {
     match join(alloc, tree, world) {
@@ -133,6 +133,16 @@ fn open_world(alloc: Global, tree: Tree, world: &[u8]) -> Result<Session, Stop<O
 }
 
 impl Session {
+    /// Opens the session of a tree in a world, before the first event; the fault is what is missing.
+    pub fn of(alloc: Global, tree: Tree, world: World) -> Result<Session, Stop<JoinFault>>
+        requires tree { IsRunnable tree }
+        requires world { IsRunnableWorld world }
+        ensures lack { Joins result (lack_of tree world new_drivers) }
+        ensures opened { IfOk result (λ session. session ≡ opened tree world) }
+    {
+        join(alloc, tree, world)
+    }
+
     /// Opens the session of the tree of these bytes of a tree file in the world of these bytes of a world script, before
     /// the first event. `main` asks for a main tree. The world's own events are not made: `own_event` makes the next.
     pub fn open(

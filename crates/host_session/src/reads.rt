@@ -65,7 +65,7 @@ fn given<'a>(ports: &'a [Port], name: &Name) -> Option<&'a PortValue>
 }
 
 impl Session {
-    ghost use Rattle.std.specs.Prelude.{count_by, length};
+    ghost use Rattle.std.specs.Prelude.{◌<◌, [], count_by, length};
     ghost use Rattle.spec_run.specs.Joins.{is_leaf};
     ghost use Rattle.spec_session.specs.Labels.{labels};
     ghost use Rattle.host_session.specs.Reads.{board_of, entry_of, inputs_of, port_value, status_of};
@@ -184,7 +184,8 @@ impl Session {
     /// where a port had none. They are kept for leaves that are told what they answer; of any other node, and before the
     /// first start, there are none.
     pub fn inputs(&self, runner: u8, uid: u32) -> &[Option<Value>]
-        ensures { result.now ≡ inputs_of self.now runner uid }
+        ensures inputs { result.now ≡ inputs_of self.now runner uid }
+        ensures none { length (labels self.now.tree) < uid → result.now ≡ [] }
     {
         match runner_of(&self.runs, runner) {
             Some(runner) => inputs_in(&self.five, &runner.arena, uid),

@@ -94,9 +94,13 @@ cell_at names slot = slice_index_or names.cells slot (owner 0 [])
 abbrev pub cell_words : Cell → List ℕ
 cell_words cell = decimal cell.scope ++ codes " " ++ cell.key
 
+-- the inputs of the node of a uid
+abbrev pub node_inputs : LineNames → ℕ → List (List ℕ)
+node_inputs names uid = slice_index_or names.inputs (uid - 1) []
+
 -- the input of the node of a uid at a place
 abbrev pub input_name : LineNames → ℕ → ℕ → List ℕ
-input_name names uid place = slice_index_or (slice_index_or names.inputs (uid - 1) []) place []
+input_name names uid place = slice_index_or (node_inputs names uid) place []
 
 -- the words of a cause of a fault of the node of this uid
 abbrev pub cause_words : LineNames → ℕ → Cause → List ℕ
@@ -162,7 +166,10 @@ abbrev pub entry_line : LineNames → ℕ × ℕ × Value → List ℕ
 entry_line names entry =
     codes "board " ++ decimal entry.0 ++ codes " " ++ cell_words (cell_at names entry.1) ++ codes " " ++ value_words entry.2 ++ codes "\n"
 
--- the lines of a block: its event, what happened in order, and the facts and the entries that changed
+-- the lines of the facts and the entries that changed
+abbrev pub change_lines : LineNames → Block → List (List ℕ)
+change_lines names block = map (fact_line names) block.facts ++ map (entry_line names) block.entries
+
+-- the lines of a block: its event, what happened in order, and what changed
 abbrev pub lines_of : LineNames → Block → List (List ℕ)
-lines_of names block =
-    header_line names block.header ∷ (map (note_line names) block.notes ++ map (fact_line names) block.facts ++ map (entry_line names) block.entries)
+lines_of names block = header_line names block.header ∷ (map (note_line names) block.notes ++ change_lines names block)

@@ -171,6 +171,33 @@ abbrev pub command_of : List (List ℕ) → Option Command
 command_of [] = None
 command_of (word ∷ words) = command_among commands word words
 
+-- ---- Serving
+
+-- what is served: a tree file, a world file where there is one, and the main tree where it is named
+pub record Served : Type 0 where
+  pub tree : List ℕ
+  pub world : Option (List ℕ)
+  pub main : Option (List ℕ)
+
+-- a tree, in a world where there is one, with these options
+abbrev pub served : List ℕ → Option (List ℕ) → List (List ℕ) → Option Served
+served tree world options =
+    if are_options (is_option takes.Main) options
+    then Some (record { tree = tree; world = world; main = value_of (codes "--main") options })
+    else None
+
+-- `TREE [WORLD] [--main ID]`: a word `--main` after the tree begins the options
+abbrev pub served_by : List (List ℕ) → Option Served
+served_by [] = None
+served_by (tree ∷ []) = served tree None []
+served_by (tree ∷ word ∷ words) =
+    if bytes_eq word (codes "--main") then served tree None (word ∷ words) else served tree (Some word) words
+
+-- `serve` and the words after it; no other command
+abbrev pub serve_of : List (List ℕ) → Option Served
+serve_of [] = None
+serve_of (word ∷ words) = if bytes_eq word (codes "serve") then served_by words else None
+
 -- the status of the process
 abbrev pub status_of : Exit → ℕ
 status_of exit.Done = 0
@@ -183,3 +210,4 @@ status_of exit.Read = 7
 status_of exit.Write = 8
 status_of exit.Memory = 9
 status_of exit.Rules = 10
+status_of exit.Request = 11

@@ -24,6 +24,8 @@ pub enum Exit {
     Memory,
     /// The rules file is refused, or what its rules make of the tree.
     Rules,
+    /// A line of a host is refused.
+    Request,
 }
 
 impl Exit {
@@ -42,6 +44,7 @@ impl Exit {
             Exit::Write => 8,
             Exit::Memory => 9,
             Exit::Rules => 10,
+            Exit::Request => 11,
         }
     }
 }

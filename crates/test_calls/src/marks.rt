@@ -122,6 +122,8 @@ struct MarkedSink<K> {
 impl<K: Sink> Sink for MarkedSink<K> {
     ghost written = { λ s. K.written s.sink };
 
+    ghost handed = { λ s. K.handed s.sink };
+
     ghost faults = { λ s. K.faults s.sink };
 
     fn write(&mut self, piece: &[u8]) -> Result<(), SinkFault> {
@@ -131,6 +133,10 @@ impl<K: Sink> Sink for MarkedSink<K> {
             }
         }
         self.sink.write(piece)
+    }
+
+    fn flush(&mut self) -> Result<(), SinkFault> {
+        self.sink.flush()
     }
 }
 

@@ -8,6 +8,7 @@ ghost use Rattle.base_tables.specs.SlotTables.{slot_table};
 ghost use Rattle.spec_run.specs.Drivers.{DriverState};
 ghost use Rattle.spec_run.specs.Joins.{first_untold};
 ghost use Rattle.base_tables.specs.Runnable.{IsRunnable};
+ghost use Rattle.spec_world.specs.Runnable.{IsRunnableWorld};
 ghost use Rattle.spec_world.specs.Worlds.{IsValidWorld};
 ghost use Rattle.run_loop.specs.Runs.{AreRuns, arenas_of};
 ghost use Rattle.spec_run.specs.Served.{Setup};
@@ -62,7 +63,7 @@ fn begin(
 ) -> Result<Underway, Stop<JoinFault>>
     ghost of: { Setup }
     requires tree { IsRunnable of.tree }
-    requires world { IsValidWorld of.world }
+    requires world { IsRunnableWorld of.world }
     requires runs { (drivers : List DriverState) × AreRuns of.tree of.world drivers runs }
     requires slots { slots.now ≡ slot_table tree.now }
     ensures told { OnOk result (first_untold of.world.rows (nodes_of of.tree.term) world.now.events ≡ None) }
@@ -237,6 +238,7 @@ fn lack_text(alloc: Global, fault: &JoinFault) -> Result<String, NoMemory> {
 
 /// The lines of the runs of a tree in a world, over drivers that hold nothing, and the fault that ended them. The fault
 /// of the join is the error.
+#[tactic(auto, using(base_tables::proofs::Runnable::runnable_world))]
 fn lines_of(
     rt: &impl Abort,
     alloc: Global,

@@ -1,0 +1,9 @@
+pub mod Held
+pub mod HeldEvents
+pub mod HeldRuns
+pub mod HeldSteps
+pub mod Opened
+pub mod Served
+pub mod Taken
+pub mod TraceLines
+pub mod TraceRuns
