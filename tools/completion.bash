@@ -77,7 +77,7 @@ _bt() {
         case $command,$text in
             *,TREE) sorts+=(xml) ;;
             ground,WORLD | gplan,WORLD) sorts+=(ground) ;;
-            *,WORLD) sorts+=(world) ;;
+            *,WORLD | *,\[WORLD\]) sorts+=(world) ;;
             *,RULES) sorts+=('rules json') ;;
             *,--* | *,\[--*)
                 text=${text#[}

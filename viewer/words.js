@@ -18,6 +18,8 @@ const EXITS = {
   7: "a file could not be read",
   8: "the output could not be written whole",
   9: "out of memory",
+  10: "the mock rules are refused",
+  11: "a line of the host is refused",
 };
 
 const grouped = new Intl.NumberFormat("en-US");

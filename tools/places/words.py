@@ -9,18 +9,24 @@ from .values import number
 
 @dataclass(frozen=True)
 class Form:
-    """A command: what stands after its word, which options it takes and needs, and the ranges of its numbers. An option that
-    `VALUES` does not have stands alone."""
+    """A command: what stands after its word, and what may stand there too; which options it takes and needs, and the ranges of
+    its numbers. An option that `VALUES` does not have stands alone."""
 
     operands: Tuple[str, ...]
     options: Tuple[str, ...] = ()
     needed: Tuple[str, ...] = ()
     ranges: Dict[str, Tuple[int, int]] = field(default_factory=dict)
+    more: Tuple[str, ...] = ()
+
+    def named(self, rest: List[str]) -> Tuple[str, ...]:
+        """What the words after the command name, before the first option."""
+        count = len(self.operands)
+        return self.operands + (self.more if rest[count:] and rest[count] not in self.options else ())
 
     def usage(self, name: str) -> str:
         """The command as a line."""
         options = [said(option) if option in self.needed else f"[{said(option)}]" for option in self.options]
-        return " ".join(["bt", name, *self.operands, *options])
+        return " ".join(["bt", name, *self.operands, *(f"[{it}]" for it in self.more), *options])
 
 
 VALUES = {"--main": "ID", "--ticks": "N", "--expand": "N", "--period": "MS"}
@@ -42,6 +48,7 @@ COMMANDS: Dict[str, Form] = {
     "live": Form(("TREE", "WORLD"), ("--ticks", "--main"), ("--ticks",), {"--ticks": (1, 100_000)}),
     "check": Form(("TREE",), ("--main", "--strict")),
     "dead": Form(("TREE",), ("--main",)),
+    "serve": Form(("TREE",), ("--main",), more=("WORLD",)),
     "load": Form(("N",), ranges={"N": (1, 1_000)}),
     "plan": PLANNING,
     "mock": Form(("TREE", "WORLD", "RULES"), ("--main",)),
@@ -74,7 +81,7 @@ def command_of(words: List[str]) -> Optional[Command]:
     name, rest = parted(words)
     if name not in COMMANDS or wrong(words) is not None:
         return None
-    operands = dict(zip(COMMANDS[name].operands, rest))
+    operands = dict(zip(COMMANDS[name].named(rest), rest))
     options = dict(options_in(rest[len(operands):]))
     return Command(name, operands.get("TREE"), operands.get("WORLD"), operands.get("RULES"), options.get("--main"), "--strict" in options)
 
@@ -95,8 +102,9 @@ def wrong(words: List[str]) -> Optional[str]:
         return f"{name}: {form.operands[len(rest)]} is missing"
     if form.operands == ("N",) and not in_range(form, "N", rest[0]):
         return out_of_range(name, form, "N", rest[0])
-    problem = wrong_options(name, form, rest[len(form.operands):])
-    early = [word for word in rest[:len(form.operands)] if word in form.options]
+    count = len(form.named(rest))
+    problem = wrong_options(name, form, rest[count:])
+    early = [word for word in rest[:count] if word in form.options]
     return f"{name}: {early[0]} comes after the files" if problem is not None and early else problem
 
 
