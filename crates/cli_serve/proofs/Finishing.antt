@@ -2,6 +2,7 @@
 use Rattle.std.proofs.Common.{◌≡◌, ◌∙◌, ◌⊎◌, ◌+◌, ◌-◌, ◌<◌, ◌≤◌, ℕ, suc, nat_le, Bool, true, false, ◌&&◌, List, [], ◌++◌, Option, None, Result, Ok, Err, refl, sym, ap, subst, inl, inr, append-nil, arith}
 use Rattle.std.specs.Option.{option_or}
 use Rattle.std.proofs.lemmas.Bool.Decides.{nat_tests}
+use Rattle.cli_serve.proofs.Owned.{both_true}
 use Rattle.cli_serve.proofs.Parts.{first_after, first_more, first_none, part_none, part_then, part_weaker, wrote_then}
 use Rattle.cli_serve.proofs.Saying.{shown_ok}
 use Rattle.cli_serve.specs.declared.over.Over.{Over}
@@ -23,10 +24,6 @@ use Rattle.text_lines.specs.declared.stop.TextStop.{TextStop}
 use Rattle.text_lines.specs.declared.stop.TextStop.TheVariants as stop
 
 -- ---- One runner
-
-both_true : (a b : Bool) → a ≡ true → b ≡ true → (a && b) ≡ true
-both_true true b p q = q
-both_true false b p q = absurd cc
 
 -- the finish of a runner that is there is taken
 taken : (s : Sitting) (runner : ℕ) → s.usable ≡ true → 1 ≤ runner → runner ≤ s.world.runners → finish_misuse s runner ≡ None

@@ -10,7 +10,7 @@ use Rattle.std.proofs.lemmas.List.Folds.{flat_map-map, list_any-append}
 use Rattle.std.proofs.lemmas.Simd.{map-map}
 use Rattle.std.proofs.lemmas.Slice.Eq.{bytes_eq-Decides}
 use Rattle.spec_run.specs.Joins.{is_leaf}
-use Rattle.spec_serve.specs.Rows.{Start, each_once, is_condition, is_of, model_elements, node_id, ports_given, starts_of, told_rows, tree_starts, with_name, with_names}
+use Rattle.spec_serve.specs.Rows.{each_once, is_condition, is_of, model_elements, node_id, ports_given, Start, starts_in, starts_of, told_rows, tree_starts, with_name, with_names}
 use Rattle.spec_tree.specs.declared.term.Kind.{Kind}
 use Rattle.spec_tree.specs.declared.term.Kind.TheVariants.{Leaf}
 use Rattle.spec_tree.specs.declared.term.Term.{Term, Term-F, fold_out-Term, fold-roll-Term, ind-Term, out-Term}
@@ -19,7 +19,7 @@ use Rattle.spec_tree.specs.Terms.{leaf_ids, own_leaf_id}
 use Rattle.spec_tree.specs.Trees.{Node, names_of, nodes_of, nodes_step}
 use Rattle.spec_tree_file.specs.declared.element.Element.{Element, fold_out-Element}
 use Rattle.spec_tree_file.specs.Models.{children_of, holds_models, name_of}
-use Rattle.cli_serve.specs.Leaves.{Leaves, Seen, after_start, after_starts, changed_at, ids_of, no_condition, own_node, own_start, row_of_leaf, starts_in, unseen, with_leaf, with_node, with_nodes, with_ports, without_condition}
+use Rattle.cli_serve.specs.Leaves.{Leaves, Seen, after_start, after_starts, changed_at, ids_of, no_condition, own_node, own_start, row_of_leaf, unseen, with_leaf, with_node, with_nodes, with_ports, without_condition}
 
 -- ---- Names
 

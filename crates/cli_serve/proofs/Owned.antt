@@ -9,6 +9,7 @@ use Rattle.std.proofs.lemmas.List.{length-map}
 use Rattle.std.proofs.lemmas.List.Elements.{recursion_from_All}
 use Rattle.std.proofs.lemmas.Slice.Eq.{bytes_eq-Decides}
 use Rattle.cli_serve.specs.Serving.{TakesAll}
+use Rattle.run_laws.proofs.Runs.{step_last}
 use Rattle.spec_run.specs.declared.block.Header.{Header}
 use Rattle.spec_run.specs.declared.block.Header.TheVariants as header
 use Rattle.spec_run.specs.declared.fault.NodeFault.{NodeFault}
@@ -42,7 +43,7 @@ use Rattle.spec_world_file.specs.WorldFile.{is_long, is_small, repeats}
 
 -- ---- What is told
 
-both_true : (a b : Bool) → a ≡ true → b ≡ true → (a && b) ≡ true
+pub both_true : (a b : Bool) → a ≡ true → b ≡ true → (a && b) ≡ true
 both_true true b p q = q
 both_true false b p q = absurd cc
 
@@ -139,35 +140,6 @@ bare_what tree world (Tick runner) h = h
 bare_what tree world (Halt runner) h = h
 bare_what tree world (Change fact value) h = h
 bare_what tree world (Tell runner uid telling) h = h
-
--- the moment of the last event is that of the step
-told_last : {A : Type 0} (answer : Result A NodeFault) (of : Header) (tree : Tree) (runner : ℕ) (notes : List Note) (calls : List Call) (s after : RunState) →
-    (told answer of tree runner notes calls s after).state.last ≡ after.last
-told_last (Ok a) of tree runner notes calls s after = refl
-told_last (Err f) of tree runner notes calls s after = refl
-
-runner_last : {A : Type 0} (of : Header) (tree : Tree) (runner at : ℕ) (s : RunState) (d : Done A Memory) → (runner_step of tree runner at s d).state.last ≡ at
-runner_last of tree runner at s d = told_last d.answer of tree runner d.notes d.calls s (with_runner s runner at d)
-
-tick_last : (o : Option Runner) (tree : Tree) (world : World) (runner at : ℕ) (s : RunState) → (tick_step o tree world runner at s).state.last ≡ at
-tick_last None tree world runner at s = refl
-tick_last (Some r) tree world runner at s =
-    runner_last (header.Tick runner at) tree runner at s (ticked tree (root_view tree world) runner r.memory (state_of r s.facts at))
-
-reset_last : (o : Option Runner) (of : Header) (tree : Tree) (world : World) (runner at : ℕ) (s : RunState) → (reset_step o of tree world runner at s).state.last ≡ at
-reset_last None of tree world runner at s = refl
-reset_last (Some r) of tree world runner at s =
-    runner_last of tree runner at s (root_reset tree (root_view tree world) r.memory (state_of r s.facts at))
-
-tell_last : (o : Option Runner) (runner uid : ℕ) (telling : Telling) (at : ℕ) (s : RunState) → (tell_step o runner uid telling at s).state.last ≡ at
-tell_last None runner uid telling at s = refl
-tell_last (Some r) runner uid telling at s = refl
-
-step_last : (what : What) (tree : Tree) (world : World) (at : ℕ) (s : RunState) → (step_by what tree world at s).state.last ≡ at
-step_last (Tick runner) tree world at s = tick_last (runner_at s runner) tree world runner at s
-step_last (Halt runner) tree world at s = reset_last (runner_at s runner) (header.Halt runner at) tree world runner at s
-step_last (Change fact value) tree world at s = refl
-step_last (Tell runner uid telling) tree world at s = tell_last (runner_at s runner) runner uid telling at s
 
 -- ---- All events
 

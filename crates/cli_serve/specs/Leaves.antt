@@ -93,17 +93,6 @@ abbrev pub after_starts : List Start → Leaves → Leaves
 after_starts [] leaves = leaves
 after_starts (start ∷ starts) leaves = after_starts starts (after_start start leaves)
 
--- the starts of those of some elements that hold no models
-abbrev pub starts_in : List Element → List Start
-starts_in es = flat_map starts_of (filter (λ e. not (holds_models (name_of e))) es)
-
--- the names of those of some ports that have a direction or both, and can be written
-abbrev pub ports_named : List ℕ → List Element → List (List ℕ)
-ports_named direction ports =
-    filter can_be_written
-    (flat_map (λ p. option_to_list (value_of (codes "name") (attributes_of p)))
-    (filter (λ p. bytes_eq (name_of p) direction || bytes_eq (name_of p) (codes "inout_port")) ports))
-
 -- the row of a leaf, by these models
 abbrev pub row_of_leaf : List Element → List ℕ × Seen → Row
 row_of_leaf models leaf = row_for (model_of leaf.0 models) leaf.0 leaf.1.condition leaf.1.ports

@@ -1,10 +1,9 @@
 //! The rows of a tree that is served without a world.
-
 ghost use Rattle.std.specs.Prelude.{◌≡◌, ◌≤◌, ◌&&◌, [], ◌∷◌, ◌++◌, IfOk, OnOk, bytes_eq, filter, length, map};
 ghost use Rattle.std.specs.Option.{option_copied, option_to_list};
-ghost use Rattle.cli_serve.specs.Leaves.{after_start, after_starts, changed_at, no_condition, own_node, own_start, IsPlace, ports_named, row_of_leaf, starts_in, with_id, with_leaf, with_node, with_nodes, with_ports};
+ghost use Rattle.cli_serve.specs.Leaves.{after_start, after_starts, changed_at, no_condition, own_node, own_start, IsPlace, row_of_leaf, with_id, with_leaf, with_node, with_nodes, with_ports};
 ghost use Rattle.cli_serve.specs.Rows.{IsTreeOf, RowGives, RowsGive, SortGives, ToldWorld, WorldGives};
-ghost use Rattle.spec_serve.specs.Rows.{is_of, model_elements, model_of, node_id, ports_of, row_for, starts_of, told_row, told_sort, told_world, too_many, tree_starts, with_name, with_names};
+ghost use Rattle.spec_serve.specs.Rows.{is_of, model_elements, model_of, node_id, ports_of, ports_towards, row_for, starts_in, starts_of, told_row, told_sort, told_world, too_many, tree_starts, with_name, with_names};
 ghost use Rattle.spec_tree.specs.Limits.{most_file_bytes};
 ghost use Rattle.spec_tree.specs.Trees.{IsValid, names_of, nodes_of};
 ghost use Rattle.spec_tree_file.specs.Models.{attributes_of, children_of, is_model, name_of};
@@ -231,7 +230,7 @@ fn model_of<'a>(models: &'a [Element], id: &Name) -> Option<&'a Element>
 
 /// The name of a port of a model, if it has this direction or both, and can be written.
 fn port_name<'a>(port: &'a Element, direction: &[u8]) -> Option<&'a Name>
-    ensures { option_to_list (option_copied result) ≡ ports_named direction.now (port.now ∷ []) }
+    ensures { option_to_list (option_copied result) ≡ ports_towards direction.now (port.now ∷ []) }
 {
     if !is(port, direction) && !is(port, b"inout_port") {
         return None;

@@ -26,15 +26,15 @@ use Rattle.host_session.specs.Sittings.{setup_of}
 use Rattle.host_session.specs.Typed.{IsTyped}
 use Rattle.host_session.proofs.Tellings.{told_valid}
 
-holds : (b : Bool) (m : Misuse) → unless b m ≡ None → b ≡ true
+pub holds : (b : Bool) (m : Misuse) → unless b m ≡ None → b ≡ true
 holds true m h = refl
 holds false m h = absurd (cc)
 
-neither : (a b : Option Misuse) → option_or a b ≡ None → (a ≡ None) × (b ≡ None)
+pub neither : (a b : Option Misuse) → option_or a b ≡ None → (a ≡ None) × (b ≡ None)
 neither None b h = (refl, h)
 neither (Some m) b h = absurd (cc)
 
-moment_fits : (last at : ℕ) → moment_misuse last at ≡ None → last ≤ at
+pub moment_fits : (last at : ℕ) → moment_misuse last at ≡ None → last ≤ at
 moment_fits last at h =
     let first : nat_le last at ≡ true = holds (nat_le last at) misuses.MomentBack (neither (unless (nat_le last at) misuses.MomentBack) (unless (nat_le at 1000000000000) misuses.MomentLate) h).0 in
     grind (arith, nat_tests)
@@ -46,7 +46,7 @@ lack_fits (Some (lack.NoDriver kind)) h = absurd (cc)
 lack_fits (Some (lack.NoLeaf uid)) h = absurd (cc)
 lack_fits (Some (lack.NoOutput uid)) h = absurd (cc)
 
-runner_fits : (world : World) (runner : ℕ) → runner_misuse world runner ≡ None → (1 ≤ runner) × (runner ≤ world.runners)
+pub runner_fits : (world : World) (runner : ℕ) → runner_misuse world runner ≡ None → (1 ≤ runner) × (runner ≤ world.runners)
 runner_fits world runner h =
     let k = both (nat_le 1 runner) (nat_le runner world.runners) (holds (nat_le 1 runner && nat_le runner world.runners) misuses.NoRunner h) in
     (grind (arith, nat_tests), grind (arith, nat_tests))

@@ -63,9 +63,13 @@ pub record Start : Type 0 where
 abbrev pub starts_of : Element → List Start
 starts_of = fold-Element (List Start) (λ e. record { name = e.name; attributes = e.attributes } ∷ flat_map (λ below. below) e.children)
 
+-- the starts of those of some elements that hold no models
+abbrev pub starts_in : List Element → List Start
+starts_in es = flat_map starts_of (filter (λ e. not (holds_models (name_of e))) es)
+
 -- the starts of the elements of the trees of a file
 abbrev pub tree_starts : Element → List Start
-tree_starts root = flat_map starts_of (filter (λ e. not (holds_models (name_of e))) (children_of root))
+tree_starts root = starts_in (children_of root)
 
 -- the ID of the node that an element of a name with attributes stands for
 abbrev pub node_id : List ℕ → Attributes → Option (List ℕ)
@@ -95,12 +99,16 @@ abbrev pub model_of : List ℕ → List Element → Option Element
 model_of id [] = None
 model_of id (e ∷ es) = if is_of id (name_of e) (attributes_of e) then Some e else model_of id es
 
--- the ports of a model that have one direction or both, in their order
-abbrev pub ports_of : List ℕ → Element → List (List ℕ)
-ports_of direction model =
+-- the names of those of some ports that have one direction or both, and can be written, in their order
+abbrev pub ports_towards : List ℕ → List Element → List (List ℕ)
+ports_towards direction ports =
     filter can_be_written
     (flat_map (λ p. option_to_list (value_of (codes "name") (attributes_of p)))
-    (filter (λ p. bytes_eq (name_of p) direction || bytes_eq (name_of p) (codes "inout_port")) (children_of model)))
+    (filter (λ p. bytes_eq (name_of p) direction || bytes_eq (name_of p) (codes "inout_port")) ports))
+
+-- the ports of a model that have one direction or both
+abbrev pub ports_of : List ℕ → Element → List (List ℕ)
+ports_of direction model = ports_towards direction (children_of model)
 
 -- how the leaves of a row are told: a condition has no outputs
 abbrev pub told_sort : Bool → List (List ℕ) → RowSort

@@ -11,7 +11,7 @@ use Rattle.spec_world_file.specs.WorldFile.{AfterLines, AllAfter, LinesMake, Lin
 use Rattle.world_reader.specs.Readings.{Gives, ScriptLines, ScriptMakes, no_script}
 
 -- the world of a file from which a host goes on is the world of the file
-lines_make : (texts : List (List ℕ)) (read : World × Reading) (after : Result Reading WorldFault) → AllAfter texts after → Ok read ≡ script_after after → LinesRead texts (Ok read.0)
+pub lines_make : (texts : List (List ℕ)) (read : World × Reading) (after : Result Reading WorldFault) → AllAfter texts after → Ok read ≡ script_after after → LinesRead texts (Ok read.0)
 lines_make texts read (Err fault) lines is = absurd (cc)
 lines_make [] read (Ok r) lines is = absurd (cc)
 lines_make (first ∷ rest) read (Ok r) lines is = by (bytes_eq (without_return first) (codes "bt-world 1")) lines

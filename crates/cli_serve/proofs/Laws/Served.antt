@@ -23,20 +23,11 @@ use Rattle.spec_world_file.specs.declared.world_fault.WorldFault.{WorldFault}
 use Rattle.spec_world_file.specs.declared.world_fault.WorldKind.TheVariants.{Header}
 use Rattle.spec_world_file.specs.WorldFile.{AfterLines, AllAfter, LinesMake, LinesRead, Reading, ReadsScript, lines_in, no_header, nothing_read, script_after, without_return}
 use Rattle.world_reader.proofs.AboutUnique.Validity.{valid_world}
+use Rattle.world_reader.proofs.Scripts.{lines_make}
 use Rattle.cli_serve.proofs.Laws.Taken.{none_is_held}
 use Rattle.cli_serve.proofs.Laws.TraceRuns.{is_trace}
 
 -- ---- The events of a world
-
--- the world of a file from which a host goes on is the world of the file
-lines_make : (texts : List (List ℕ)) (read : World × Reading) (after : Result Reading WorldFault) → AllAfter texts after → Ok read ≡ script_after after → LinesRead texts (Ok read.0)
-lines_make texts read (Err fault) lines is = absurd (cc)
-lines_make [] read (Ok r) lines is = absurd (cc)
-lines_make (first ∷ rest) read (Ok r) lines is = by (bytes_eq (without_return first) (codes "bt-world 1")) lines
-  where
-    by : (b : Bool) → MatchBool b (AfterLines 2 rest nothing_read (Ok r)) (◌≡◌ {A = Result Reading WorldFault} (Ok r) (Err (record { line = 1; kind = Header }))) → MatchBool b (LinesMake rest (Ok read.0)) (◌≡◌ {A = Result World WorldFault} (Ok read.0) no_header)
-    by true read_all = record { after = Ok r; lines = read_all; is = cc }
-    by false faulty = absurd (cc)
 
 script_valid : (bytes : List ℕ) (read : World × Reading) → ReadsScript bytes (Ok read) → IsValidWorld read.0
 script_valid bytes read reads = valid_world bytes read.0 (lines_make (lines_in bytes) read reads.after reads.lines reads.is)

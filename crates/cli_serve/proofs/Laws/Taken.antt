@@ -5,6 +5,7 @@ use Rattle.std.specs.List.Sorted.{IsNonDecreasingBy}
 use Rattle.std.specs.Option.{option_or}
 use Rattle.std.proofs.lemmas.Bool.{and_parts, leb-true}
 use Rattle.std.proofs.lemmas.List.Elements.{recursion_from_All}
+use Rattle.host_session.proofs.Misuses.{moment_fits, neither, runner_fits}
 use Rattle.run_laws.proofs.Runs.{InOrderFrom, order_after, step_last}
 use Rattle.spec_program.specs.declared.exit.Exit.{Exit}
 use Rattle.spec_program.specs.declared.exit.Exit.TheVariants as exit
@@ -40,29 +41,13 @@ use Rattle.cli_serve.proofs.Laws.TraceRuns.{finishes_events}
 
 -- ---- An event that a session takes
 
-holds : (b : Bool) (wrong : Misuse) → unless b wrong ≡ None → b ≡ true
-holds true wrong none = refl
-holds false wrong none = cc
-
-neither : (a b : Option Misuse) → option_or a b ≡ None → (a ≡ None) × (b ≡ None)
-neither None b none = (refl, none)
-neither (Some wrong) b none = absurd (cc)
-
-not_before : (last at : ℕ) → moment_misuse last at ≡ None → last ≤ at
-not_before last at none =
-    leb-true last at (holds (nat_le last at) misuses.MomentBack (neither (unless (nat_le last at) misuses.MomentBack) (unless (nat_le at last_moment) misuses.MomentLate) none).0)
-
-is_runner : (world : World) (runner : ℕ) → runner_misuse world runner ≡ None → 1 ≤ runner
-is_runner world runner none =
-    leb-true 1 runner (and_parts (nat_le 1 runner) (nat_le runner world.runners) (holds (nat_le 1 runner && nat_le runner world.runners) misuses.NoRunner none)).0
-
 names_runner : (tree : Tree) (world : World) (what : What) → what_misuse tree world what ≡ None → NamesRunner what
-names_runner tree world (Tick runner) none = is_runner world runner none
-names_runner tree world (Halt runner) none = is_runner world runner none
+names_runner tree world (Tick runner) none = (runner_fits world runner none).0
+names_runner tree world (Halt runner) none = (runner_fits world runner none).0
 names_runner tree world (Change fact value) none = tt
 names_runner tree world (Tell runner uid telling) none =
-    is_runner world runner (neither (runner_misuse world runner)
-    (option_or (lack_misuse (event_lacks world.rows (nodes_of tree.term) (Tell runner uid telling))) (telling_misuse telling)) none).0
+    (runner_fits world runner (neither (runner_misuse world runner)
+    (option_or (lack_misuse (event_lacks world.rows (nodes_of tree.term) (Tell runner uid telling))) (telling_misuse telling)) none).0).0
 
 -- an event that is taken is not before the last one, and names a runner where it is of one
 is_taken : (s : Sitting) (e : Event) → misuse s e ≡ None → (s.state.last ≤ e.at) × NamesRunner e.what
@@ -70,7 +55,7 @@ is_taken s e none =
     let rest : option_or (moment_misuse s.state.last e.at) (what_misuse s.tree s.world e.what) ≡ None =
     (neither (unless s.usable misuses.Over) (option_or (moment_misuse s.state.last e.at) (what_misuse s.tree s.world e.what)) none).1 in
     let each : (moment_misuse s.state.last e.at ≡ None) × (what_misuse s.tree s.world e.what ≡ None) = neither (moment_misuse s.state.last e.at) (what_misuse s.tree s.world e.what) rest in
-    (not_before s.state.last e.at each.0, names_runner s.tree s.world e.what each.1)
+    (moment_fits s.state.last e.at each.0, names_runner s.tree s.world e.what each.1)
 
 -- ---- What is said
 

@@ -1,4 +1,5 @@
-use Rattle.cli_serve.specs.Leaves.{after_starts, starts_in}
+use Rattle.cli_serve.specs.Leaves.{after_starts}
+use Rattle.spec_serve.specs.Rows.{starts_in}
 use Rattle.cli_serve.proofs.Leaves.{tree_more}
 use Rattle.cli_serve.proofs.rows.mark_trees.Goals as goal
 

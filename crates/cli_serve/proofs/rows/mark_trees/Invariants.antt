@@ -1,5 +1,6 @@
 use Rattle.std.proofs.Common.{◌≡◌, drop}
-use Rattle.cli_serve.specs.Leaves.{after_starts, starts_in}
+use Rattle.spec_serve.specs.Rows.{starts_in}
+use Rattle.cli_serve.specs.Leaves.{after_starts}
 use Rattle.cli_serve.proofs.rows.mark_trees.Given as goal
 
 -- after the starts in the elements that are left, it is said of all
