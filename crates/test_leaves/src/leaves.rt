@@ -3,6 +3,7 @@ ghost use Rattle.std.specs.Prelude.{◌≡◌, ◌<◌, ◌≤◌, IfOk, None, S
 ghost use Rattle.spec_run.specs.Drivers.{NothingHeld};
 ghost use Rattle.base_tables.specs.DriverCalls.{kind_of_way};
 ghost use Rattle.base_tables.specs.Outputs as outputs;
+ghost use Rattle.spec_world.specs.Runnable.{IsRunnableWorld};
 ghost use Rattle.spec_world.specs.Worlds.{IsValidWorld};
 ghost use Rattle.run_driver.specs.Rules.{rule};
 ghost use Rattle.test_leaves.specs.Stages.{IsAtWork};
@@ -79,7 +80,7 @@ fn stage_of<D: Drivers>(
     world: &World,
     inputs: Inputs,
 ) -> Result<Stage, NoMemory>
-    requires valid { IsValidWorld world.now }
+    requires valid { IsRunnableWorld world.now }
     requires quiet { NothingHeld (D.states drivers.old) }
     ensures work { IfOk result (λ stage. IsAtWork (D.states drivers.new) stage.place (kind_of_way (rule stage.row).way) stage.since.items) }
     ensures table { IfOk result (λ stage. length stage.facts ≡ stage.row.facts) }
@@ -106,6 +107,7 @@ fn stage_of<D: Drivers>(
 
 /// The last row of the world of these lines, made ready, and a roster prepared for it that holds
 /// nothing.
+#[tactic(auto, using(base_tables::proofs::Runnable::runnable_world))]
 fn stage_in<D: Drivers>(
     rt: &impl Abort,
     alloc: Global,
