@@ -1,4 +1,5 @@
 pub mod AboutDecorators
+pub mod ChoiceVisits
 pub mod Counted
 pub mod OrderedRows
 pub mod OrderedVisits

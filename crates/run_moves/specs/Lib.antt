@@ -1,4 +1,5 @@
 pub mod AtHand
+pub mod Choices
 pub mod Decorators
 pub mod Navigation
 pub mod Rounds

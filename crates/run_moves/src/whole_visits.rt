@@ -1,19 +1,22 @@
 //! What the control nodes answer over all that they hear of their children in one visit.
 
-ghost use Rattle.std.specs.Prelude.{ℕ, ◌≡◌, ◌≤◌, ◌<◌, ◌-◌, ◌+◌, ◌*◌, Bool, false, true, List, Ok, Option, length, map, take};
+ghost use Rattle.std.specs.Prelude.{ℕ, ◌≡◌, ◌≤◌, ◌<◌, ◌-◌, ◌+◌, ◌*◌, Bool, false, true, List, Ok, Option, length, map, take, Some, None, [], ◌∷◌};
 ghost use Rattle.spec_run.specs.declared.memory.Counts.{Counts};
 ghost use Rattle.spec_run.specs.declared.memory.Memo.{Memo};
-ghost use Rattle.spec_run.specs.declared.memory.Memo.TheVariants.{Counts as Counted, Index, Recoveries as Recovering, Rotation as Rotating};
+ghost use Rattle.spec_run.specs.declared.memory.Memo.TheVariants.{Chosen, Counts as Counted, Index, Recoveries as Recovering, Rotation as Rotating};
 ghost use Rattle.spec_run.specs.declared.memory.Memory.{Memory};
 ghost use Rattle.spec_run.specs.declared.memory.Recoveries.{Recoveries};
 ghost use Rattle.spec_run.specs.declared.memory.Rotation.{Rotation};
 ghost use Rattle.spec_run.specs.declared.status.Answer.{Answer};
 ghost use Rattle.spec_tree.specs.declared.term.Kind.{Kind};
-ghost use Rattle.spec_tree.specs.declared.term.Kind.TheVariants.{Fallback, Parallel, PipelineSequence, ReactiveFallback, ReactiveSequence, RecoveryNode, RoundRobin, Sequence, SequenceWithMemory};
+ghost use Rattle.spec_tree.specs.declared.term.Kind.TheVariants.{Fallback, IfThenElse, Parallel, PipelineSequence, ReactiveFallback, ReactiveSequence, RecoveryNode, RoundRobin, Sequence, SequenceWithMemory, Switch, WhileDoElse};
 ghost use Rattle.spec_run.specs.Done.{State, follow};
 ghost use Rattle.spec_run.specs.Rules.Kinds.{rule};
 ghost use Rattle.spec_run.specs.Rules.Recoveries.{recoveries_left};
 ghost use Rattle.spec_run.specs.Steps.{Child, Rule};
+ghost use Rattle.spec_run.specs.declared.moves.Span.TheVariants as span;
+ghost use Rattle.run_moves.specs.Choices.{answers_after, branch_kept, choice_answers, choice_stops, given_up, keeps_memo};
+ghost use Rattle.run_moves.specs.Decorators.Again.{last_answer};
 ghost use Rattle.run_moves.specs.Navigation.{answers_in_turn, answers_round, keeps_rotation, pipeline_answer, pipeline_stops, recovery_row, recovery_stops, robin_answer};
 ghost use Rattle.run_moves.specs.Rows.{fallback_answer, fallback_stops, halts_others, keeps_counts, keeps_index, last_place, parallel_answer, parallel_stops, remembers_index, sequence_answer, sequence_stops};
 ghost use Rattle.run_moves.specs.Visits.{Hears, IsVisit, Told, all_say, answers_from, heard_from};
@@ -101,4 +104,32 @@ pub fn robin_over_a_visit()
     ensures { (n now picked : ℕ) (r : Rotation) (answers : List Answer) → IsVisit fallback_stops (n - r.passed) answers →
         Hears RoundRobin (rule RoundRobin n (Rotating r) picked now) (answers_round n r.at answers)
         (keeps_rotation n r answers (robin_answer n r.skipped answers)) }
+{}
+
+/// A SwitchN visits the child that is selected alone, and passes its answer on. Where another one was chosen before and is
+/// RUNNING, this is reset first.
+pub fn switch_over_a_visit()
+    ensures { (cases n now picked : ℕ) (kept : Option ℕ) (a : Answer) →
+        Hears (Switch cases) (rule (Switch cases) n (Chosen kept) picked now) (answers_after (given_up kept picked) picked a ∷ [])
+        (keeps_memo (Chosen (Some picked)) a) }
+{}
+
+/// An IfThenElse visits the branch that it has chosen alone. Where none is chosen it visits its condition, the first child,
+/// and then the second on SUCCESS, or the third, where there is one, on FAILURE. It passes the last answer on, and a branch
+/// that is RUNNING stays chosen.
+pub fn if_then_else_over_a_visit()
+    ensures branch { (n now picked place : ℕ) (a : Answer) →
+        Hears IfThenElse (rule IfThenElse n (Chosen (Some place)) picked now) (answers_after span.None place a ∷ [])
+        (keeps_memo (Chosen (Some place)) a) }
+    ensures condition { (n now picked : ℕ) (answers : List Answer) → IsVisit (λ l. choice_stops n l) 2 answers →
+        Hears IfThenElse (rule IfThenElse n (Chosen None) picked now) (choice_answers (λ _. span.None) answers)
+        (keeps_memo (Chosen (branch_kept answers)) (last_answer answers)) }
+{}
+
+/// A WhileDoElse begins each visit with its condition, the first child, and goes on as an IfThenElse does; before it visits
+/// a branch it resets all other children. It passes the last answer on.
+pub fn while_do_else_over_a_visit()
+    ensures { (n now picked : ℕ) (memo : Memo) (answers : List Answer) → IsVisit (λ l. choice_stops n l) 2 answers →
+        Hears WhileDoElse (rule WhileDoElse n memo picked now) (choice_answers (λ place. span.AllBut place) answers)
+        (keeps_memo memo (last_answer answers)) }
 {}
