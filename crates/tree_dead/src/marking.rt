@@ -1,9 +1,15 @@
-ghost use Rattle.std.specs.Prelude.{◌≡◌, ◌≤◌, ◌+◌, ◌++◌, IfOk, OnOk, length};
+ghost use Rattle.std.specs.Prelude.{◌≡◌, ◌≤◌, ◌+◌, ◌++◌, IfOk, List, OnOk, length};
+ghost use Rattle.std.specs.List.{AllByRecursion};
+ghost use Rattle.spec_world.specs.declared.world.Event.{Event};
+ghost use Rattle.spec_world.specs.declared.world.World.{World};
+ghost use Rattle.spec_run.specs.Run.{run_over};
 ghost use Rattle.spec_tree.specs.Terms.{node_count};
-ghost use Rattle.spec_tree.specs.Trees.{IsWithinLimits};
+ghost use Rattle.spec_tree.specs.Trees.{IsValid, IsWithinLimits};
 ghost use Rattle.spec_dead.specs.Dead.{dead_nodes, outlook, unmarked};
+ghost use Rattle.tree_dead.specs.Runs.{IsNeverNamed, LeavesHaveRows};
 
 use crate::guards::before_rule;
+use crate::laws::no_run_visits_a_dead_node;
 use crate::reached::{reaches, selected_of, still_passes};
 use crate::rules::rule_answers;
 use base_texts::NoMemory;
@@ -62,8 +68,13 @@ fn unmarked(alloc: Global, marks: &[bool]) -> Result<Vec<u32>, NoMemory>
 /// of memory.
 pub fn dead(alloc: Global, tree: &Tree) -> Result<Vec<u32>, NoMemory>
     requires { IsWithinLimits tree.now }
-    ensures { IfOk result (λ uids. uids.items ≡ dead_nodes tree.now) }
+    ensures nodes { IfOk result (λ uids. uids.items ≡ dead_nodes tree.now) }
+
+    // No run of a valid tree names one of them, whatever the world and the events are.
+    ensures unvisited { IfOk result (λ uids. IsValid tree.now → (world : World) → LeavesHaveRows tree.now world → (events : List Event) →
+        AllByRecursion (IsNeverNamed (run_over tree.now world events).blocks) uids.items) }
 {
+    no_run_visits_a_dead_node();
     let mut marks = Vec::new(alloc);
     mark(alloc, &tree.term, true, &mut marks)?;
     unmarked(alloc, marks.as_slice())

@@ -21,21 +21,21 @@ pub returns-in_err-write_each-clause-prefix : goal.returns-in_err-write_each-cla
 returns-in_err-write_each-clause-prefix g c =
     let tree = c.args.tree.now in
     let ids = all_ids _ _ _ tree.term c.new-ids.ensures.items c.in_ok-add_ids.ensures c.as_slice.ensures.value in
-    AppendedPrefix-longer _ _ (lines tree) (dead_count_line tree) (rw (ids, c.as_slice-2.ensures.value ∙ c.in_ok-uids.ensures) at c.in_err-write_each.ensures.prefix)
+    AppendedPrefix-longer _ _ (lines tree) (dead_count_line tree) (rw (ids, c.as_slice-2.ensures.value ∙ c.in_ok-uids.ensures.nodes) at c.in_err-write_each.ensures.prefix)
 
 pub returns-in_err-line-clause-prefix : goal.returns-in_err-line-clause-prefix
 returns-in_err-line-clause-prefix g c =
     let tree = c.args.tree.now in
     let ids = all_ids _ _ _ tree.term c.new-ids.ensures.items c.in_ok-add_ids.ensures c.as_slice.ensures.value in
     AppendedPrefix-longer _ _ (lines tree) (dead_count_line tree)
-    (AppendedPrefix-whole _ _ _ (rw (ids, c.as_slice-2.ensures.value ∙ c.in_ok-uids.ensures) at c.in_ok-write_each.ensures.whole))
+    (AppendedPrefix-whole _ _ _ (rw (ids, c.as_slice-2.ensures.value ∙ c.in_ok-uids.ensures.nodes) at c.in_ok-write_each.ensures.whole))
 
 pub returns-in_err-write_line-clause-prefix : goal.returns-in_err-write_line-clause-prefix
 returns-in_err-write_line-clause-prefix g c =
     let tree = c.args.tree.now in
     let ids = all_ids _ _ _ tree.term c.new-ids.ensures.items c.in_ok-add_ids.ensures c.as_slice.ensures.value in
     AppendedPrefix-after _ _ _ (lines tree) (dead_count_line tree)
-    (rw (ids, c.as_slice-2.ensures.value ∙ c.in_ok-uids.ensures) at c.in_ok-write_each.ensures.whole)
+    (rw (ids, c.as_slice-2.ensures.value ∙ c.in_ok-uids.ensures.nodes) at c.in_ok-write_each.ensures.whole)
     (rw (c.as_slice-4.ensures.value ∙ c.in_ok-line.ensures) at c.in_err-write_line.ensures.prefix)
 
 pub returns-clause-whole : goal.returns-clause-whole
@@ -43,7 +43,7 @@ returns-clause-whole g c =
     let tree = c.args.tree.now in
     let ids = all_ids _ _ _ tree.term c.new-ids.ensures.items c.in_ok-add_ids.ensures c.as_slice.ensures.value in
     Appended-trans _ _ _ (lines tree) (dead_count_line tree)
-    (rw (ids, c.as_slice-2.ensures.value ∙ c.in_ok-uids.ensures) at c.in_ok-write_each.ensures.whole)
+    (rw (ids, c.as_slice-2.ensures.value ∙ c.in_ok-uids.ensures.nodes) at c.in_ok-write_each.ensures.whole)
     (rw (c.as_slice-4.ensures.value ∙ c.in_ok-line.ensures) at c.in_ok-write_line.ensures.whole)
 
 pub returns-clause-prefix : goal.returns-clause-prefix
