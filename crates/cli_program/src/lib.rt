@@ -5,7 +5,9 @@
 mod boxes;
 mod headline;
 pub mod laws;
+mod planning;
 mod roster;
 
 pub use headline::bt;
+pub use planning::plan_over;
 pub use roster::add_driver;

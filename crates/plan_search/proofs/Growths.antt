@@ -28,7 +28,7 @@ use Rattle.spec_plan.specs.declared.places.Place.{Place}
 use Rattle.spec_plan.specs.PlanAnswers.{StandsAlone}
 use Rattle.spec_plan.specs.Failing.{failed, first_open, has_untried, ids_of}
 use Rattle.plan_search.specs.Grown.{AreConditions, GoesOrEnds, IsGrown, IsNotGrown, SettlesOrStalls}
-use Rattle.spec_plan.specs.PlanRuns.{Decides, Ends, Grows, HasNoOrder, HasNoTemplate, IsOpen, Trial, failed_in}
+use Rattle.spec_plan.specs.PlanRuns.{Decides, Ends, Grows, HasNoOrder, HasNoTemplate, Trial, failed_in}
 use Rattle.plan_tree.proofs.Searched.{find_ended, found_item, passed_item}
 use Rattle.plan_search.proofs.Conditions.{failed_are}
 
@@ -67,9 +67,6 @@ module _ (world : World) (limits : Limits) (trial : Trial) (mid now : PlanTree) 
   module _ (g : Grown) (grown : IsGrown mid world trial.tree places g) where
     abbrev next : Forest
     next = expanded world.rows grown.expands.keys g.place.key grown.expands.template.row trial.tree
-
-    pub is_open : IsOpen world limits trial
-    is_open = record { decides = decides; place = g.place; first = ap (first_open world.rows trial.tree) (sym are) ∙ grown.first }
 
     grows : Grows world limits trial g.place grown.expands.template g.sequence next
     grows = record {
@@ -167,6 +164,20 @@ passed_more world old now tree places i d within p st c is none = record {
 
 pub passed_all : (world : World) (t : PlanTree) (tree : Forest) (places : List Place) (i : ℕ) → length places ≤ i → Passed world t tree places i → IsNotGrown t world tree places
 passed_all world t tree places i past p = record { none = sym p.same ∙ find_ended (has_untried world.rows tree) places i past; stands = p.stands }
+
+-- a condition without an untried template is passed over
+pub passed_over : (world : World) (t : PlanTree) (tree : Forest) (places : List Place) (i : ℕ) (d : Place) → i < length places → Passed world t tree places i →
+    has_untried world.rows tree (get_or places i d) ≡ false → Passed world t tree places (i + 1)
+passed_over world t tree places i d within p none = record {
+  stands = p.stands;
+  rest = conditions_next tree places i d within p.rest;
+  same = passed_item (has_untried world.rows tree) places i d within none ∙ p.same;
+}
+
+-- .. and one that has one is the first
+pub open_at : (world : World) (t : PlanTree) (tree : Forest) (places : List Place) (i : ℕ) (d : Place) → i < length places → Passed world t tree places i →
+    has_untried world.rows tree (get_or places i d) ≡ true → first_open world.rows tree places ≡ Some (get_or places i d)
+open_at world t tree places i d within p open_ = sym p.same ∙ found_item (has_untried world.rows tree) places i d within open_
 
 pub grown_at : (world : World) (old now : PlanTree) (tree : Forest) (places : List Place) (i : ℕ) (d : Place) → i < length places → Passed world old tree places i → (g : Grown) → g.place ≡ get_or places i d →
     (e : Expands now world tree g.place.key g.sequence) → g.action ≡ e.template.row → IsGrown now world tree places g

@@ -7,6 +7,7 @@ pub mod AlikeTried
 pub mod Beginnings
 pub mod Causes
 pub mod Conditions
+pub mod EngineRuns
 pub mod Growths
 pub mod Joined
 pub mod Leading

@@ -9,15 +9,15 @@ ghost use Rattle.spec_plan.specs.Achievers.{row_in};
 ghost use Rattle.spec_plan.specs.Planned.{id_of};
 ghost use Rattle.plan_tree.specs.Stands.{IsConditionOf, IsSequenceOf, StandsFor};
 ghost use Rattle.spec_plan.specs.declared.verdict.Verdict.TheVariants.{Fails};
-ghost use Rattle.spec_plan.specs.Failing.{failed, ids_of};
+ghost use Rattle.spec_plan.specs.Failing.{failed, first_open, ids_of};
 ghost use Rattle.plan_search.specs.Grown.{AreConditions, ExpandsOrNot, GoesOrEnds, GrowsOrNot, SettlesOrStalls};
-ghost use Rattle.spec_plan.specs.PlanRuns.{Decides, Trial, last_notes};
+ghost use Rattle.spec_plan.specs.PlanRuns.{Decides, Ends, Trial, failed_in, last_notes};
 ghost use Rattle.spec_plan.specs.Settling.{name_at};
 
 use crate::failing::failed;
 use crate::settling::settle;
 use base_texts::{Items, Name, NoMemory, Stop};
-use plan_tree::{ExpandFault, PlanTree, expand, part_of, row_of};
+use plan_tree::{ExpandFault, PlanTree, expand, has_untried, part_of, row_of};
 use spec_plan::{End, Limits, Part, Place, Step};
 use spec_run::Note;
 use spec_world::{Row, World};
@@ -155,6 +155,46 @@ fn settle_step(
     }
 }
 
+/// The first of some conditions that has an untried template.
+fn first_open(t: &PlanTree, places: &[Place]) -> Option<Place>
+    ensures { (world : World) (tree : Forest) → StandsFor t.now world tree → AreConditions tree places.now →
+        result ≡ first_open world.rows tree places.now }
+{
+    for place in places {
+        if has_untried(t, place.key) {
+            return Some(*place);
+        }
+    }
+    None
+}
+
+/// The end where no condition that failed has an untried template.
+fn no_template(alloc: Global, world: &World, places: &[Place]) -> Result<End, NoMemory>
+    ensures { IfOk result (λ end. end ≡ End.NoTemplate (ids_of world.now.rows places.now)) }
+{
+    Ok(End::NoTemplate {
+        failed: ids_of(alloc, world.rows.list(), places)?,
+    })
+}
+
+/// The end of a tree that failed where no sequence may be added any more. The tree stays as it is.
+fn end_at_limit(
+    alloc: Global,
+    world: &World,
+    limits: &Limits,
+    t: &PlanTree,
+    places: &[Place],
+) -> Result<End, NoMemory>
+    ensures { IfOk result (λ end. (trial : Trial) → StandsFor t.now world.now trial.tree → AreConditions trial.tree places.now →
+        Decides world.now limits.now trial Fails → places.now ≡ failed_in world.now limits.now trial →
+        Ends world.now limits.now limits.now.expand trial end) }
+{
+    match first_open(t, places) {
+        Some(_) => Ok(End::Expansions { n: limits.expand }),
+        None => no_template(alloc, world, places),
+    }
+}
+
 /// Makes a step from a tree that failed, by the notes of its last tick, or ends there.
 pub fn grow(
     alloc: Global,
@@ -171,16 +211,12 @@ pub fn grow(
         → GoesOrEnds t.new world.now limits.now (length steps.old.items) trial steps.old.items steps.new.items end) }
 {
     let places = failed(alloc, t, notes)?;
+    if steps.len() == limits.expand as usize {
+        return Ok(Some(end_at_limit(alloc, world, limits, t, places.as_slice())?));
+    }
     let found = expand_first(alloc, t, places.as_slice())?;
     match found {
-        None => Ok(Some(End::NoTemplate {
-            failed: ids_of(alloc, world.rows.list(), places.as_slice())?,
-        })),
-        Some(grown) => {
-            if steps.len() == limits.expand as usize {
-                return Ok(Some(End::Expansions { n: limits.expand }));
-            }
-            settle_step(alloc, world, grown, t, steps)
-        }
+        None => Ok(Some(no_template(alloc, world, places.as_slice())?)),
+        Some(grown) => settle_step(alloc, world, grown, t, steps),
     }
 }

@@ -1,4 +1,6 @@
-ghost use Rattle.std.specs.Prelude.{◌≡◌, List};
+ghost use Rattle.std.specs.Prelude.{◌≡◌, ℕ, List};
+ghost use Rattle.spec_tree.specs.declared.term.Tree.{Tree};
+ghost use Rattle.spec_plan.specs.Modelled.{ReachedAt};
 ghost use Rattle.spec_world.specs.declared.world.World.{World};
 ghost use Rattle.spec_run.specs.Drivers.{DriverState};
 ghost use Rattle.spec_output.specs.Lines.{LineNames};
@@ -8,7 +10,7 @@ ghost use Rattle.spec_plan.specs.declared.ending.Limits.{Limits};
 ghost use Rattle.spec_plan.specs.declared.ending.PlanEnd.{PlanEnd};
 ghost use Rattle.spec_plan.specs.PlanAnswers.{IsPlan, IsPlanCut};
 ghost use Rattle.spec_plan.specs.PlanLines.{end_line};
-ghost use Rattle.plan_search.specs.Reached.{IsReached};
+ghost use Rattle.plan_search.specs.Reached.{IsReached, IsReachedInRun};
 ghost use Rattle.spec_plan.specs.PlanRuns.{PlanRun, Trial};
 
 /// Where a plan run ends at the goals, its tree makes every goal true after the tick that it names,
@@ -16,6 +18,12 @@ ghost use Rattle.spec_plan.specs.PlanRuns.{PlanRun, Trial};
 pub fn plans_reach()
     ensures { (world : World) (limits : Limits) (planned : PlanEnd) (trials : List Trial) (last : Trial) →
         PlanRun world limits planned trials last → IsReached world limits planned.end }
+{}
+
+/// What a plan says of its tree is so in the run of the engine, over one tick each period in the modelled world: what the
+/// ticks up to the one that is named leave makes every goal true, and what fewer of them leave does not make all true.
+pub fn goals_are_reached_in_the_run()
+    ensures { (tree : Tree) (world : World) (period k : ℕ) → ReachedAt tree world period k → IsReachedInRun tree world period k }
 {}
 
 /// All plan runs of a world with these limits are one: they have the same steps, the same tree and

@@ -1,6 +1,6 @@
 //! The expansion of a condition.
 
-ghost use Rattle.std.specs.Prelude.{◌≡◌, ◌↔◌, Some, Err, [], false, OnErr, IfOk, MatchOption, slice_get};
+ghost use Rattle.std.specs.Prelude.{◌≡◌, ◌↔◌, Some, Err, [], false, OnErr, IfOk, MatchOption, not, slice_get};
 ghost use Rattle.std.specs.List.{find, list_any};
 ghost use Rattle.std.specs.Option.{option_and_then, option_map_or};
 ghost use Rattle.slab.specs.Slab.{get};
@@ -10,6 +10,7 @@ ghost use Rattle.plan_tree.specs.declared.expanding.ExpandFault.TheVariants.{NoU
 ghost use Rattle.plan_tree.specs.declared.node.Node.{Node};
 ghost use Rattle.spec_plan.specs.declared.part.Part.TheVariants.{Sequence};
 ghost use Rattle.spec_plan.specs.Expansion.{untried};
+ghost use Rattle.spec_plan.specs.Templates.{is_empty};
 ghost use Rattle.plan_tree.specs.Expanded.{Chooses, Expands, GrowsAt, is_new, is_open};
 ghost use Rattle.spec_plan.specs.Forests.{Forest, is_fallback};
 ghost use Rattle.plan_tree.specs.Growth.{fallback_children, names_sequence, parts_of, rule_needs, site_of};
@@ -168,6 +169,17 @@ fn choose(t: &PlanTree, key: usize) -> Option<Choice>
         row: template.row,
         parent: site.parent,
     })
+}
+
+/// Whether the condition of this key has an untried template.
+pub fn has_untried(t: &PlanTree, key: usize) -> bool
+    ensures { (world : World) (tree : Forest) → StandsFor t.now world tree → IsConditionOf tree key →
+        result ≡ not (is_empty (untried world.rows key tree)) }
+{
+    match choose(t, key) {
+        Some(_) => true,
+        None => false,
+    }
 }
 
 /// A new sequence joins the condition of this key. Refused for want of memory (out of memory), only

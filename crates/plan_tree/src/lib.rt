@@ -15,7 +15,7 @@ mod texts;
 mod tree;
 
 pub use domain::{achieves, templates, test_of, threatens};
-pub use expanding::{ExpandFault, expand};
+pub use expanding::{ExpandFault, expand, has_untried};
 pub use node::Node;
 pub use numbers::{key_of, part_of, row_of};
 pub use planned::tree_of;
