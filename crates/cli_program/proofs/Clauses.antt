@@ -271,7 +271,7 @@ if_more None P Q more x = tt
 if_more (Some told) P Q more x = more told x
 
 -- what is so of each output, and what follows
-each_more : (holds : Option (List ℕ → List ℕ)) (command : Option Command) (a : Side) (P Q : Output → Type 0) → ((o : Output) → P o → Q o) → EachOutput holds command a P → EachOutput holds command a Q
+pub each_more : (holds : Option (List ℕ → List ℕ)) (command : Option Command) (a : Side) (P Q : Output → Type 0) → ((o : Output) → P o → Q o) → EachOutput holds command a P → EachOutput holds command a Q
 each_more None command a P Q more x = tt
 each_more (Some h) command a P Q more x =
     if_more (moments_for command a.clock) (λ moments. (o : Output) → CommandGives command h moments a.drivers o → P o) (λ moments. (o : Output) → CommandGives command h moments a.drivers o → Q o)

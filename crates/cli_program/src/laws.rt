@@ -1,20 +1,23 @@
 //! What follows from the clauses of `bt`, of the same words, with the shelf before and after, the exit, and
 //! what the command finds and leaves.
 
-ghost use Rattle.std.specs.Prelude.{◌≡◌, ◌⊎◌, None, Option};
-ghost use Rattle.spec_program.specs.Answers.{Gave, IsWhole, Side};
+ghost use Rattle.std.specs.Prelude.{ℕ, ◌≡◌, ◌⊎◌, List, None, Option, Some};
+ghost use Rattle.spec_program.specs.Answers.{DriversWithin, Gave, IsWhole, Side};
 ghost use Rattle.spec_program.specs.declared.exit.Exit.{Exit as Given};
 ghost use Rattle.spec_program.specs.declared.exit.Exit.TheVariants as exit;
-ghost use Rattle.spec_program.specs.Words.{Command};
+ghost use Rattle.spec_program.specs.Words.{Command, Load};
 ghost use Rattle.cli_commands.specs.Answering.{CommandAnswered};
 ghost use Rattle.spec_program.specs.Answered.{ReadFailed, WordsAnswered};
 ghost use Rattle.spec_program.specs.Reads.{WordsUnread};
 ghost use Rattle.spec_outside.specs.Counts.{Rose};
-ghost use Rattle.spec_program.specs.Headline.{EachOutput};
+ghost use Rattle.spec_program.specs.Headline.{EachOutput, IsGiven, WholeOutput};
 ghost use Rattle.cli_program.specs.LawWords.{IsNotLive, UnreadLine};
 ghost use Rattle.spec_program.specs.Refused.{words_refused};
 
 use base_outside::Shelf;
+use plan_search::laws::{plan_cuts_begin_within, plans_run_one_way};
+use tree_elements::{element_or_fault, one_element};
+use world_reader::laws::worlds_read_one_way;
 
 /// By `reads`, also where the shelf or the clock tells nothing: the output of some bytes of the files and
 /// of some moments was given, or a read failed. It follows: at Words the words are no command, and those
@@ -53,3 +56,23 @@ pub fn outputs_are_complete<S: Shelf>(before: &S, after: &S)
         ¬ Rose (S.faults before.now) (S.faults after.now) → ¬ Rose old.faults new.faults
         → (result ≡ exit.Memory) ⊎ IsWhole o result old new) }
 {}
+
+/// By `reads`: of a load, which reads no file, `whole`, `each` and `begun` hold over every shelf, also one that tells
+/// nothing. They are said here of whatever files there may be; no read can have failed.
+pub fn loads_are_answered_over_every_shelf<S: Shelf>(before: &S, after: &S)
+    ensures whole { (leaves : ℕ) (holds : List ℕ → List ℕ) (result : Given) (old new : Side) →
+        WordsAnswered S.read_gives (S.holds before.now) (Some (Load leaves)) (Rose (S.faults before.now) (S.faults after.now)) before.now after.now result old new
+        → IsGiven result → WholeOutput (Some holds) (Some (Load leaves)) result old new }
+    ensures each { (leaves : ℕ) (holds : List ℕ → List ℕ) (result : Given) (old new : Side) →
+        WordsAnswered S.read_gives (S.holds before.now) (Some (Load leaves)) (Rose (S.faults before.now) (S.faults after.now)) before.now after.now result old new
+        → EachOutput (Some holds) (Some (Load leaves)) old (λ o. Gave o result old new) }
+    ensures begun { (leaves : ℕ) (holds : List ℕ → List ℕ) (result : Given) (old new : Side) →
+        WordsAnswered S.read_gives (S.holds before.now) (Some (Load leaves)) (Rose (S.faults before.now) (S.faults after.now)) before.now after.now result old new
+        → EachOutput (Some holds) (Some (Load leaves)) old (λ o. DriversWithin o.drivers old.drivers new.drivers) }
+{
+    one_element();
+    element_or_fault();
+    worlds_read_one_way();
+    plans_run_one_way();
+    plan_cuts_begin_within();
+}
