@@ -1,11 +1,11 @@
 //! Which models the files of trees have, and the first fault of each.
 
 use base_texts::{Name, Stop};
-use spec_tree_file::{Elements, ManifestFault, NodeModel};
+use spec_tree_file::{Elements, ManifestFault};
 use std::alloc::{AllocError, Global};
 use std::test::Fail;
 use tree_elements::read_elements;
-use tree_manifest::{manifest_of, model};
+use tree_manifest::{KnownModel, manifest_of, model};
 
 /// A name of this text.
 fn name(alloc: Global, text: &str) -> Result<Name, AllocError> {
@@ -18,10 +18,9 @@ fn text(name: &Name) -> &str {
     str::from_utf8(name.list()).unwrap_or("?")
 }
 
-/// Adds a model: its ID, and its ports with their defaults.
-fn put_model(alloc: Global, model: &NodeModel, out: &mut String) -> Result<(), AllocError> {
-    out.push_str(text(&model.id))?;
-    for port in model.ports.list() {
+/// Adds the ports of a model with their defaults.
+fn put_ports(alloc: Global, model: &KnownModel, out: &mut String) -> Result<(), AllocError> {
+    for port in model.ports() {
         out.push_str(" ")?;
         out.push_str(text(&port.name))?;
         if let Some(fallback) = &port.fallback {
@@ -31,20 +30,20 @@ fn put_model(alloc: Global, model: &NodeModel, out: &mut String) -> Result<(), A
     Ok(())
 }
 
-/// A model as text, or `none`.
-fn model_text(alloc: Global, model: Option<&NodeModel>) -> Result<String, AllocError> {
+/// The model of an ID as text, or `none`.
+fn model_text(alloc: Global, id: &Name, model: Option<&KnownModel>) -> Result<String, AllocError> {
     let Some(model) = model else {
         return String::from_str(alloc, "none");
     };
-    let mut all = String::new(alloc);
-    put_model(alloc, model, &mut all)?;
+    let mut all = String::from_str(alloc, text(id))?;
+    put_ports(alloc, model, &mut all)?;
     Ok(all)
 }
 
 /// The model of this ID in the file of these elements, or the file's fault.
 fn elements_text(alloc: Global, elements: &Elements, id: &Name) -> Result<String, AllocError> {
     match manifest_of(alloc, elements) {
-        Ok(models) => model_text(alloc, model(&models, id)),
+        Ok(models) => model_text(alloc, id, model(&models, id)),
         Err(Stop::Fault(ManifestFault::DoubleModel { place })) => format!(in alloc;
             "DoubleModel {place}"
         ),
