@@ -8,13 +8,16 @@ use Rattle.base_texts.specs.declared.stop.Stop.TheVariants as stop
 use Rattle.spec_script.specs.declared.syntax.Expr.{Expr}
 use Rattle.spec_world.specs.declared.world.Row.{Row}
 use Rattle.spec_world.specs.declared.world.RowSort.{RowSort}
+use Rattle.spec_world.specs.declared.world.What.{What}
 use Rattle.spec_world_file.specs.declared.world_fault.WorldKind.{WorldKind}
-use Rattle.spec_world_file.specs.WorldFile.{Line, TimedLine, ReplayLine, AfterForm, AfterLine, Reading, following, ends_after, is_ms, outcomes_in, replay_line, timed_line, told_line, with_action, word, ReadsNumeric, SaysOf, closed, ranged, with_head}
+use Rattle.spec_world_file.specs.declared.world_fault.WorldKind.TheVariants.{Header, BadLine, Range, DoubleName, NoName, MomentBack, TooMany}
+use Rattle.spec_world_file.specs.WorldFile.{Line, EveryLine, Part, TimedLine, ReplayLine, AfterForm, AfterLine, Reading, following, ends_after, is_ms, is_runner, is_step, runner_in, runners_of, what_in, with_rounds, outcomes_in, replay_line, timed_line, told_line, with_action, word, ReadsNumeric, SaysOf, closed, ranged, with_head}
 use Rattle.spec_tree.specs.Numbers.{is_canonical, number_in}
 use Rattle.spec_world_file.specs.WorldFile as file
 use Rattle.world_draft.specs.Lines.Ranges.{Passes}
 use Rattle.world_draft.specs.Drafts.{DraftSays, row_of}
 use Rattle.world_draft.specs.Readings.{Leaves}
+use Rattle.world_draft.specs.Rounds.{PartsSay}
 use Rattle.world_draft.specs.declared.draft.Draft.{Draft}
 
 pub leaves_map : {A X F : Type 0} (result : Result A (Stop F)) (left : X) (P Q : Result X F → Type 0) → ((said : Result X F) → P said → Q said) → Leaves result left P → Leaves result left Q
@@ -95,3 +98,38 @@ nothing_more result left r now line head row text add sort after is is_head none
     ap (λ (t : Bool). if t then option_map line (file.head_in row) else None) none ∙ ap (option_map line) (sym is_head) in
     leaves_map result left (λ said. said ≡ with_head head add sort now) (AfterForm r (told_line line row text))
     (λ said k. subst (λ (o : Option Line). AfterForm r o said) (sym said_line) (after said (k ∙ ap (λ (q : Reading). with_head head add sort q) is)))
+
+-- rounds whose numbers and runners are in their ranges
+pub rounds_said :
+    {A : Type 0} (result : Result A (Stop WorldKind)) (left r now : Reading) (ms last : ℤ) (time end : ℕ) (written : List Part) (whats : List What) →
+    now ≡ closed r → Passes is_step nat_abs ms (Some time) → Passes is_ms nat_abs last (Some end) →
+    list_all (λ part. is_runner (runners_of r) (runner_in part)) written ≡ true → whats ≡ map what_in written →
+    Leaves result left (λ said. said ≡ with_rounds end time whats now) → Leaves result left (AfterLine r (EveryLine ms last written))
+rounds_said result left r now ms last time end written whats is step ended within whats_are =
+    let there : Bool = list_all (λ part. is_runner (runners_of r) (runner_in part)) written in
+    let all : (is_step ms && is_ms last && there) ≡ true =
+    ap (λ (b : Bool). b && is_ms last && there) step.0 ∙ ap (λ (b : Bool). true && b && there) ended.0 ∙ within in
+    leaves_map result left (λ said. said ≡ with_rounds end time whats now) (AfterLine r (EveryLine ms last written))
+    (λ said k.
+    k ∙ ap (λ (n : ℕ). with_rounds n time whats now) ended.1 ∙ ap (λ (n : ℕ). with_rounds (nat_abs last) n whats now) step.1
+    ∙ ap (λ (ws : List What). with_rounds (nat_abs last) (nat_abs ms) ws now) whats_are
+    ∙ ap (λ (q : Reading). with_rounds (nat_abs last) (nat_abs ms) (map what_in written) q) is
+    ∙ ranged_is (is_step ms && is_ms last && there) (with_rounds (nat_abs last) (nat_abs ms) (map what_in written) (closed r)) all)
+
+never_both : (b : Bool) → (b && false) ≡ false
+never_both true = refl
+never_both false = refl
+
+-- .. of which a runner is not there
+pub rounds_refused : (s : Stop WorldKind) (left r : Reading) (ms last : ℤ) (written : List Part) → PartsSay (Err s) written (runners_of r) →
+    Leaves {A = Unit {0}} (Err s) left (AfterLine r (EveryLine ms last written))
+rounds_refused stop.NoMemory left r ms last written h = tt
+rounds_refused (stop.Fault Range) left r ms last written h =
+    let said : Result Reading WorldKind = with_rounds (nat_abs last) (nat_abs ms) (map what_in written) (closed r) in
+    sym (ap (λ (b : Bool). ranged (is_step ms && is_ms last && b) said) h ∙ ap (λ (b : Bool). ranged b said) (never_both (is_step ms && is_ms last)))
+rounds_refused (stop.Fault Header) left r ms last written h = absurd h
+rounds_refused (stop.Fault BadLine) left r ms last written h = absurd h
+rounds_refused (stop.Fault DoubleName) left r ms last written h = absurd h
+rounds_refused (stop.Fault NoName) left r ms last written h = absurd h
+rounds_refused (stop.Fault MomentBack) left r ms last written h = absurd h
+rounds_refused (stop.Fault TooMany) left r ms last written h = absurd h

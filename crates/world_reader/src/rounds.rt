@@ -47,6 +47,8 @@ fn add_rounds(
     let Some(last) = ms(last) else {
         return Err(Stop::Fault(WorldKind::Range));
     };
-    let parts = parts_within(alloc, parts, reading.runners())?;
-    reading.add_rounds(last, time, parts.as_slice())
+    match parts_within(alloc, parts, reading.runners()) {
+        Ok(parts) => reading.add_rounds(last, time, parts.as_slice()),
+        Err(stop) => Err(stop),
+    }
 }

@@ -68,7 +68,7 @@ module _ (facts : List Fact) (runners : ℕ) where
       (rounds_more n (at + ms) ms whats (events ++ round) (omega (arith, early, end)) valid next))
 
 length-rounds : (n at ms : ℕ) (whats : List What) → length (rounds n at ms whats) ≡ n * length whats
-length-rounds zero at ms whats = refl
+length-rounds zero at ms whats = omega arith
 length-rounds (suc n) at ms whats =
     let round : List Event = map (λ what. record { at = at; what = what }) whats in
     let more : suc n * length whats ≡ n * length whats + length whats = one_more n (length whats) in
