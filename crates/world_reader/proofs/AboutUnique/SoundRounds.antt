@@ -72,7 +72,8 @@ length-rounds zero at ms whats = omega arith
 length-rounds (suc n) at ms whats =
     let round : List Event = map (λ what. record { at = at; what = what }) whats in
     let more : suc n * length whats ≡ n * length whats + length whats = one_more n (length whats) in
-    omega (arith, more, length-append round (rounds n (at + ms) ms whats), length-map whats (λ (what : What). record { at = at; what = what }), length-rounds n (at + ms) ms whats)
+    let counted : length round ≡ length whats = length-map whats (λ what. record { at = at; what = what }) in
+    omega (arith, more, length-append round (rounds n (at + ms) ms whats), counted, length-rounds n (at + ms) ms whats)
 
 pub stays_rounds : (r : Reading) (last ms : ℕ) (whats : List What) → Sound r → last ≤ 1000000000000 → All (IsValidWhat r.facts (runners_of r)) whats → Stays (with_rounds last ms whats r)
 stays_rounds r last ms whats h early valid =
