@@ -126,6 +126,11 @@ def an_engine_that_is_killed_is_told_and_all_stops(folder):
     same(it.log, ["A starts", "B starts", "A stops", "B stops"])
 
 
+def heed_interrupts():
+    """Lets a process be interrupted that is started by one in the background, which ignores it."""
+    signal.signal(signal.SIGINT, signal.SIG_DFL)
+
+
 @test
 def an_interrupted_host_stops_its_robot(folder):
     tree = tree_file(folder, "<A/>")
@@ -140,7 +145,7 @@ def a():
     finally:
         print("stops", flush=True)
 robot.run(hz=100)
-"""), stdout=subprocess.PIPE, stderr=subprocess.PIPE, text=True)
+"""), stdout=subprocess.PIPE, stderr=subprocess.PIPE, text=True, preexec_fn=heed_interrupts)
     same(host.stdout.readline(), "starts\n")
     host.send_signal(signal.SIGINT)
     printed, said = host.communicate(timeout=PATIENCE)
