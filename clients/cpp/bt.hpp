@@ -1154,7 +1154,7 @@ private:
     it.id = said([&](std::uint8_t *room, std::size_t size) { return bt_node_id(session.get(), uid, room, size); });
     it.name = said([&](std::uint8_t *room, std::size_t size) { return bt_node_name(session.get(), uid, room, size); });
     it.path = said([&](std::uint8_t *room, std::size_t size) { return bt_node_path(session.get(), uid, room, size); });
-    it.is_leaf = bt_node_kind(session.get(), uid) == BT_LEAF;
+    it.is_leaf = bt_node_kind(session.get(), uid) == BT_NODE_LEAF;
     for (std::size_t place = 0; place < bt_port_count(session.get(), uid); ++place)
       it.ports.emplace_back(said([&](std::uint8_t *room, std::size_t size) { return bt_port_name(session.get(), uid, place, room, size); }),
                             port(uid, place));
@@ -1215,13 +1215,13 @@ private:
 
   void keep(const bt_note &note) {
     static const NodeStatus statuses[] = {NodeStatus::IDLE, NodeStatus::RUNNING, NodeStatus::SUCCESS, NodeStatus::FAILURE, NodeStatus::SKIPPED};
-    if (note.kind == BT_NOTE_CHANGED)
+    if (note.kind == BT_CHANGED)
       unheard.push_back({Happened::CHANGED, note.uid, statuses[note.status]});
-    else if (note.kind == BT_NOTE_STARTED)
+    else if (note.kind == BT_STARTED)
       unheard.push_back({Happened::STARTED, note.uid, statuses[note.status]});
-    else if (note.kind == BT_NOTE_ROOT)
+    else if (note.kind == BT_ROOT)
       unheard.push_back({Happened::ROOT, 0, statuses[note.status]});
-    else if (note.kind == BT_NOTE_HALTED || note.kind == BT_NOTE_QUENCHED)
+    else if (note.kind == BT_HALTED || note.kind == BT_QUENCHED)
       unheard.push_back({Happened::HALTED, note.uid, NodeStatus::IDLE});
   }
   using Engine::keep;

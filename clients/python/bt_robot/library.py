@@ -35,12 +35,6 @@ class NoteTold(Structure):
     _fields_ = [("uid", c_uint32), ("kind", c_uint8), ("runner", c_uint8), ("before", c_uint8), ("status", c_uint8), ("cause", c_uint32), ("detail", c_uint32)]
 
 
-class EventTold(Structure):
-    """`bt_event`"""
-
-    _fields_ = [("kind", c_uint8), ("runner", c_uint8), ("status", c_uint8), ("number", c_uint32), ("at_ms", c_uint64)]
-
-
 # A text in, and a room for a text out, each a pointer and a size.
 IN, ROOM = (c_void_p, c_size_t), (c_void_p, c_size_t)
 # What each call takes after its session, and answers.
@@ -48,7 +42,7 @@ CALLS = {
     "bt_tick": (c_uint32, c_uint32, c_uint64), "bt_halt": (c_uint32, c_uint32, c_uint64), "bt_set": (c_uint32, c_uint32, c_int64, c_uint64),
     "bt_tell": (c_uint32, c_uint32, c_uint32, c_uint32, c_uint64), "bt_output_int": (c_uint32, *IN, c_int64), "bt_output_text": (c_uint32, *IN, *IN),
     "bt_next": (c_uint32, c_uint64), "bt_finish": (c_uint32, c_uint32), "bt_is_usable": (c_uint32,), "bt_runner_count": (c_uint32,),
-    "bt_notes": (c_size_t, POINTER(NoteTold), c_size_t), "bt_print": (c_size_t, *ROOM), "bt_event": (EventTold,),
+    "bt_notes": (c_size_t, POINTER(NoteTold), c_size_t), "bt_print": (c_size_t, *ROOM),
     "bt_fact_count": (c_size_t,), "bt_fact_name": (c_size_t, c_uint32, *ROOM),
     "bt_entry_count": (c_size_t,), "bt_entry_scope": (c_uint32, c_uint32), "bt_entry_key": (c_size_t, c_uint32, *ROOM),
     "bt_entry": (ValueTold, c_uint32, c_uint32), "bt_entry_text": (c_size_t, c_uint32, c_uint32, *ROOM),
