@@ -137,6 +137,13 @@ impl Session {
         self.runs.last
     }
 
+    /// The moment of the next of the world's own events, in milliseconds; none where all were made.
+    pub fn next_at(&self) -> Option<u64>
+        ensures { result ≡ option_map (λ (e : Event). e.at) (first self.now.own) }
+    {
+        Some(self.own.front()?.at)
+    }
+
     /// Lends the values of the facts, by their number.
     pub fn facts(&self) -> &[i64]
         ensures { result.now ≡ self.now.state.facts }

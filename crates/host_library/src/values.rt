@@ -1,0 +1,77 @@
+//! Values of blackboard entries, ports and facts.
+
+use crate::text::copy_text;
+use spec_script::Value;
+use spec_tree::PortValue;
+
+/// What is told of a value: its kind, how long its text is, and its number.
+#[repr(C)]
+#[derive(Clone, Copy, Debug)]
+pub struct Valued {
+    /// 0 where there is no value, 1 for a number, 2 for a text, 3 for the key of an entry.
+    pub kind: u32,
+    /// How many bytes the text or the key has.
+    pub length: u32,
+    /// The number.
+    pub number: i64,
+}
+
+/// What is told where there is no value.
+pub fn no_value() -> Valued {
+    Valued {
+        kind: 0,
+        length: 0,
+        number: 0,
+    }
+}
+
+/// What is told of a number.
+pub fn int_told(number: i64) -> Valued {
+    Valued {
+        kind: 1,
+        length: 0,
+        number,
+    }
+}
+
+/// What is told of a text or a key, by its kind.
+fn text_told(kind: u32, text: &[u8]) -> Valued {
+    Valued {
+        kind,
+        length: text.len() as u32,
+        number: 0,
+    }
+}
+
+/// What is told of a value, if there is one.
+pub fn value_told(value: Option<&Value>) -> Valued {
+    match value {
+        Some(Value::Int(n)) => int_told(*n),
+        Some(Value::Text(text)) => text_told(2, text.list()),
+        None => no_value(),
+    }
+}
+
+/// Copies the text of a value, if it is one.
+pub fn copy_value_text(value: Option<&Value>, room: &mut [u8]) -> usize {
+    match value {
+        Some(Value::Text(text)) => copy_text(text.list(), room),
+        _ => 0,
+    }
+}
+
+/// What is told of what a port is given.
+pub fn given_told(given: &PortValue) -> Valued {
+    match given {
+        PortValue::Lit(value) => value_told(Some(value)),
+        PortValue::Key(key) => text_told(3, key.list()),
+    }
+}
+
+/// Copies the text or the key that a port is given.
+pub fn copy_given_text(given: &PortValue, room: &mut [u8]) -> usize {
+    match given {
+        PortValue::Lit(value) => copy_value_text(Some(value), room),
+        PortValue::Key(key) => copy_text(key.list(), room),
+    }
+}
