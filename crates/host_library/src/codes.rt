@@ -1,7 +1,10 @@
 //! What C is told by numbers, which include/bt.h names.
+ghost use Rattle.std.specs.Prelude.{◌≡◌};
+ghost use Rattle.host_library.specs.Codes as codes;
+ghost use Rattle.host_library.specs.Numbers as numbers;
 
-use spec_session::Ended;
 use spec_run::{Answer, Status};
+use spec_session::Ended;
 use spec_tree::Kind;
 
 /// The call has done what it says.
@@ -21,7 +24,9 @@ pub const NO_EVENT: u32 = 5;
 pub const NO_STATUS: u8 = 255;
 
 /// How an event has ended.
-pub fn code_of(made: Result<(), Ended>) -> u32 {
+pub fn code_of(made: Result<(), Ended>) -> u32
+    ensures { result ≡ codes.code_of made }
+{
     match made {
         Ok(()) => OK,
         Err(Ended::Fault(_)) => FAULT,
@@ -31,7 +36,9 @@ pub fn code_of(made: Result<(), Ended>) -> u32 {
 }
 
 /// The number of a status.
-pub fn status_number(status: Status) -> u8 {
+pub fn status_number(status: Status) -> u8
+    ensures { result ≡ numbers.status_number status }
+{
     match status {
         Status::Idle => 0,
         Status::Running => 1,
@@ -41,7 +48,9 @@ pub fn status_number(status: Status) -> u8 {
 }
 
 /// The number of an answer.
-pub fn answer_number(answer: Answer) -> u8 {
+pub fn answer_number(answer: Answer) -> u8
+    ensures { result ≡ numbers.answer_number answer }
+{
     match answer {
         Answer::Running => 1,
         Answer::Success => 2,
@@ -51,7 +60,9 @@ pub fn answer_number(answer: Answer) -> u8 {
 }
 
 /// The number of a node's kind.
-pub fn kind_number(kind: Kind) -> u32 {
+pub fn kind_number(kind: Kind) -> u32
+    ensures { result ≡ numbers.kind_number kind }
+{
     match kind {
         Kind::Sequence => 1,
         Kind::SequenceWithMemory => 2,

@@ -1,3 +1,6 @@
+ghost use types.Logic.{sem};
+ghost use Rattle.host_library.specs.Owned.{hosted_owns};
+
 use crate::hosted::Hosted;
 use std::alloc::Global;
 
@@ -8,6 +11,9 @@ fn free(hosted: Box<Hosted>) {
 
 /// Frees the session at this pointer.
 #[unsafe(no_mangle)]
-pub unsafe extern "C" fn bt_close(alloc: Global, session: *mut u8) {
+pub unsafe extern "C" fn bt_close(alloc: Global, session: *mut u8)
+    ghost last: { Hosted }
+    requires* { sem 𝓛 (hosted_owns session last) }
+{
     free(Box::from_raw(alloc, session as *mut Hosted));
 }

@@ -1,4 +1,11 @@
 //! The events of a session.
+ghost use Rattle.std.specs.Prelude.{◌≡◌, ◌<◌, [], ◌∷◌, ◌++◌, IfNone, IfOk, IfSome, IsUtf8, OnErr, OnOk, Some};
+ghost use types.Logic.{sem};
+ghost use Rattle.host_library.specs.declared.hosted.Hosted.{Hosted as HostedOf};
+ghost use Rattle.spec_world.specs.declared.world.Telling.TheVariants.{Success};
+ghost use Rattle.host_library.specs.Codes.{no_memory, ok};
+ghost use Rattle.host_library.specs.Events.{Finishes, Forgets, Halts, IntGiven, LeafTold, Nexts, Sets, TellTold, Tells, TextGiven, Ticks, has_place};
+ghost use Rattle.host_library.specs.Owned.{hosted_owns};
 
 use crate::codes::{FAULT, MISUSE, NO_EVENT, NO_MEMORY, OK, code_of};
 use crate::hosted::Hosted;
@@ -16,7 +23,10 @@ const FAILURE: u32 = 3;
 
 impl Hosted {
     /// The runner of this number; none where the world has no such runner.
-    fn runner(&self, number: u32) -> Option<u8> {
+    fn runner(&self, number: u32) -> Option<u8>
+        ensures some { IfSome result (λ runner. runner ≡ number) }
+        ensures none { IfNone result (self.now.session.world.runners < number) }
+    {
         if number <= u32::from(self.session.world().runners) {
             Some(number as u8)
         } else {
@@ -25,7 +35,9 @@ impl Hosted {
     }
 
     /// Ticks a runner.
-    fn tick(&mut self, runner: u32, at: u64) -> u32 {
+    fn tick(&mut self, runner: u32, at: u64) -> u32
+        ensures { Ticks self.old runner at result self.new }
+    {
         match self.runner(runner) {
             Some(runner) => code_of(self.session.event(What::Tick(runner), at)),
             None => MISUSE,
@@ -33,7 +45,9 @@ impl Hosted {
     }
 
     /// Halts a runner.
-    fn halt(&mut self, runner: u32, at: u64) -> u32 {
+    fn halt(&mut self, runner: u32, at: u64) -> u32
+        ensures { Halts self.old runner at result self.new }
+    {
         match self.runner(runner) {
             Some(runner) => code_of(self.session.event(What::Halt(runner), at)),
             None => MISUSE,
@@ -41,12 +55,16 @@ impl Hosted {
     }
 
     /// Changes a fact.
-    fn set(&mut self, fact: u32, value: i64, at: u64) -> u32 {
+    fn set(&mut self, fact: u32, value: i64, at: u64) -> u32
+        ensures { Sets self.old fact value at result self.new }
+    {
         code_of(self.session.event(What::Change { fact, value }, at))
     }
 
     /// Finishes a runner.
-    fn finish(&mut self, runner: u32) -> u32 {
+    fn finish(&mut self, runner: u32) -> u32
+        ensures { Finishes self.old runner result self.new }
+    {
         match self.runner(runner) {
             Some(runner) => code_of(self.session.finish(runner)),
             None => MISUSE,
@@ -54,7 +72,9 @@ impl Hosted {
     }
 
     /// Makes the next of the world's own events, where its moment is this one or before it.
-    fn next(&mut self, until: u64) -> u32 {
+    fn next(&mut self, until: u64) -> u32
+        ensures { Nexts self.old until result self.new }
+    {
         match self.session.next_at() {
             Some(at) if at <= until => code_of(self.session.own_event()),
             _ => NO_EVENT,
@@ -62,19 +82,28 @@ impl Hosted {
     }
 
     /// Adds an output to those that the next telling has.
-    fn add_out(&mut self, name: &[u8], value: Value) -> Result<(), NoMemory> {
+    fn add_out(&mut self, name: &[u8], value: Value) -> Result<(), NoMemory>
+        requires { IsUtf8 name.now }
+        ensures ok { OnOk result (self.new.outs.items ≡ self.old.outs.items ++ record { port = name.now; value = value } ∷ []) }
+        ensures err { OnErr result (self.new.outs.items ≡ self.old.outs.items) }
+        ensures session { self.new.session ≡ self.old.session }
+    {
         let port = Name::copied(self.alloc, name)?;
         self.outs.push(ToldOut { port, value })?;
         Ok(())
     }
 
     /// Whether an output of this name may be added.
-    fn has_place(&self, name: &[u8]) -> bool {
+    fn has_place(&self, name: &[u8]) -> bool
+        ensures { result ≡ has_place self.now name.now }
+    {
         self.session.is_usable() && is_name(name) && self.outs.len() < MOST_OUTPUTS
     }
 
     /// Gives an output a number.
-    fn output_int(&mut self, name: &[u8], value: i64) -> u32 {
+    fn output_int(&mut self, name: &[u8], value: i64) -> u32
+        ensures { IntGiven self.old name.now value result self.new }
+    {
         if !self.has_place(name) {
             return MISUSE;
         }
@@ -82,7 +111,9 @@ impl Hosted {
     }
 
     /// Gives an output a text.
-    fn output_text(&mut self, name: &[u8], text: &[u8]) -> u32 {
+    fn output_text(&mut self, name: &[u8], text: &[u8]) -> u32
+        ensures { TextGiven self.old name.now text.now result self.new }
+    {
         if !self.has_place(name) || text.len() > MOST_TEXT_BYTES || str::from_utf8(text).is_err() {
             return MISUSE;
         }
@@ -93,12 +124,16 @@ impl Hosted {
     }
 
     /// Forgets the outputs.
-    fn clear_outs(&mut self) {
+    fn clear_outs(&mut self)
+        ensures { Forgets self.old self.new }
+    {
         self.outs.clear();
     }
 
     /// Tells a leaf something.
-    fn tell_as(&mut self, runner: u8, uid: u32, telling: Telling, at: u64) -> u32 {
+    fn tell_as(&mut self, runner: u8, uid: u32, telling: Telling, at: u64) -> u32
+        ensures { LeafTold self.old runner uid telling at result self.new }
+    {
         let what = What::Tell {
             runner,
             uid,
@@ -112,25 +147,44 @@ impl Hosted {
     }
 
     /// Tells a leaf that it has succeeded, with the outputs.
-    fn tell_success(&mut self, runner: u8, uid: u32, at: u64) -> u32 {
+    fn tell_success(&mut self, runner: u8, uid: u32, at: u64) -> u32
+        ensures { TellTold (Some (Success self.old.outs.items)) self.old runner uid at result self.new }
+    {
         match copy_outs(self.alloc, self.outs.as_slice()) {
             Ok(outs) => self.tell_as(runner, uid, Telling::Success(Items::of(outs)), at),
             Err(NoMemory) => NO_MEMORY,
         }
     }
 
+    /// Tells a leaf of a runner how it ended, or whether it holds.
+    fn tell_of(&mut self, runner: u8, uid: u32, status: u32, at: u64) -> u32
+        ensures { Tells self.old runner uid status at result self.new }
+    {
+        if status == SUCCESS {
+            self.tell_success(runner, uid, at)
+        } else if status == FAILURE {
+            self.tell_as(runner, uid, Telling::Failure, at)
+        } else {
+            MISUSE
+        }
+    }
+
     /// Tells a leaf how it ended, or whether it holds.
-    fn tell(&mut self, runner: u32, uid: u32, status: u32, at: u64) -> u32 {
+    fn tell(&mut self, runner: u32, uid: u32, status: u32, at: u64) -> u32
+        ensures { Tells self.old runner uid status at result self.new }
+    {
         match self.runner(runner) {
-            Some(runner) if status == SUCCESS => self.tell_success(runner, uid, at),
-            Some(runner) if status == FAILURE => self.tell_as(runner, uid, Telling::Failure, at),
-            _ => MISUSE,
+            Some(runner) => self.tell_of(runner, uid, status, at),
+            None => MISUSE,
         }
     }
 }
 
 /// How the adding of an output has ended.
-fn stored(added: Result<(), NoMemory>) -> u32 {
+fn stored(added: Result<(), NoMemory>) -> u32
+    ensures ok { OnOk added (result ≡ ok) }
+    ensures err { OnErr added (result ≡ no_memory) }
+{
     match added {
         Ok(()) => OK,
         Err(NoMemory) => NO_MEMORY,
@@ -138,7 +192,9 @@ fn stored(added: Result<(), NoMemory>) -> u32 {
 }
 
 /// A copy of a value.
-fn copy_value(alloc: Global, value: &Value) -> Result<Value, NoMemory> {
+fn copy_value(alloc: Global, value: &Value) -> Result<Value, NoMemory>
+    ensures { IfOk result (λ copied. copied ≡ value.now) }
+{
     match value {
         Value::Int(n) => Ok(Value::Int(*n)),
         Value::Text(text) => Ok(Value::Text(text.copy(alloc)?)),
@@ -146,7 +202,9 @@ fn copy_value(alloc: Global, value: &Value) -> Result<Value, NoMemory> {
 }
 
 /// Copies of outputs.
-fn copy_outs(alloc: Global, outs: &[ToldOut]) -> Result<Vec<ToldOut>, NoMemory> {
+fn copy_outs(alloc: Global, outs: &[ToldOut]) -> Result<Vec<ToldOut>, NoMemory>
+    ensures { IfOk result (λ copies. copies.items ≡ outs.now) }
+{
     let mut copies = Vec::new(alloc);
     for out in outs {
         let port = out.port.copy(alloc)?;
@@ -158,19 +216,31 @@ fn copy_outs(alloc: Global, outs: &[ToldOut]) -> Result<Vec<ToldOut>, NoMemory> 
 
 /// Ticks a runner of the session at this pointer.
 #[unsafe(no_mangle)]
-pub unsafe extern "C" fn bt_tick(session: *mut u8, runner: u32, now_ms: u64) -> u32 {
+pub unsafe extern "C" fn bt_tick(session: *mut u8, runner: u32, now_ms: u64) -> u32
+    ghost before: { Hosted }
+    requires* { sem 𝓛 (hosted_owns session before) }
+    ensures* { ∃ₛ (λ (after : HostedOf). sem 𝓛 (hosted_owns session after) ∗ ⌜ Ticks before runner now_ms result after ⌝) }
+{
     Hosted::tick(&mut *(session as *mut Hosted), runner, now_ms)
 }
 
 /// Halts a runner of the session at this pointer.
 #[unsafe(no_mangle)]
-pub unsafe extern "C" fn bt_halt(session: *mut u8, runner: u32, now_ms: u64) -> u32 {
+pub unsafe extern "C" fn bt_halt(session: *mut u8, runner: u32, now_ms: u64) -> u32
+    ghost before: { Hosted }
+    requires* { sem 𝓛 (hosted_owns session before) }
+    ensures* { ∃ₛ (λ (after : HostedOf). sem 𝓛 (hosted_owns session after) ∗ ⌜ Halts before runner now_ms result after ⌝) }
+{
     Hosted::halt(&mut *(session as *mut Hosted), runner, now_ms)
 }
 
 /// Changes a fact of the session at this pointer.
 #[unsafe(no_mangle)]
-pub unsafe extern "C" fn bt_set(session: *mut u8, fact: u32, value: i64, now_ms: u64) -> u32 {
+pub unsafe extern "C" fn bt_set(session: *mut u8, fact: u32, value: i64, now_ms: u64) -> u32
+    ghost before: { Hosted }
+    requires* { sem 𝓛 (hosted_owns session before) }
+    ensures* { ∃ₛ (λ (after : HostedOf). sem 𝓛 (hosted_owns session after) ∗ ⌜ Sets before fact value now_ms result after ⌝) }
+{
     Hosted::set(&mut *(session as *mut Hosted), fact, value, now_ms)
 }
 
@@ -182,7 +252,11 @@ pub unsafe extern "C" fn bt_tell(
     uid: u32,
     status: u32,
     now_ms: u64,
-) -> u32 {
+) -> u32
+    ghost before: { Hosted }
+    requires* { sem 𝓛 (hosted_owns session before) }
+    ensures* { ∃ₛ (λ (after : HostedOf). sem 𝓛 (hosted_owns session after) ∗ ⌜ Tells before runner uid status now_ms result after ⌝) }
+{
     Hosted::tell(&mut *(session as *mut Hosted), runner, uid, status, now_ms)
 }
 
@@ -206,12 +280,20 @@ pub unsafe extern "C" fn bt_output_clear(session: *mut u8) {
 
 /// Makes the world's own next event up to a moment, in the session at this pointer.
 #[unsafe(no_mangle)]
-pub unsafe extern "C" fn bt_next(session: *mut u8, until_ms: u64) -> u32 {
+pub unsafe extern "C" fn bt_next(session: *mut u8, until_ms: u64) -> u32
+    ghost before: { Hosted }
+    requires* { sem 𝓛 (hosted_owns session before) }
+    ensures* { ∃ₛ (λ (after : HostedOf). sem 𝓛 (hosted_owns session after) ∗ ⌜ Nexts before until_ms result after ⌝) }
+{
     Hosted::next(&mut *(session as *mut Hosted), until_ms)
 }
 
 /// Finishes a runner of the session at this pointer.
 #[unsafe(no_mangle)]
-pub unsafe extern "C" fn bt_finish(session: *mut u8, runner: u32) -> u32 {
+pub unsafe extern "C" fn bt_finish(session: *mut u8, runner: u32) -> u32
+    ghost before: { Hosted }
+    requires* { sem 𝓛 (hosted_owns session before) }
+    ensures* { ∃ₛ (λ (after : HostedOf). sem 𝓛 (hosted_owns session after) ∗ ⌜ Finishes before runner result after ⌝) }
+{
     Hosted::finish(&mut *(session as *mut Hosted), runner)
 }

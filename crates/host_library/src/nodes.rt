@@ -1,4 +1,12 @@
 //! What is told of the nodes of a session's tree, which no event changes, and their statuses.
+ghost use Rattle.std.specs.Prelude.{◌≡◌, length};
+ghost use Rattle.std.specs.Option.{option_copied};
+ghost use types.Logic.{sem};
+ghost use Rattle.host_library.specs.Owned.{hosted_owns};
+ghost use Rattle.host_library.specs.Numbers as numbers;
+ghost use Rattle.host_library.specs.Reads as reads;
+ghost use Rattle.host_library.specs.Texts.{TextTold};
+ghost use Rattle.host_library.specs.Values as values;
 
 use crate::codes::{NO_STATUS, kind_number, status_number};
 use crate::hosted::Hosted;
@@ -10,12 +18,16 @@ use spec_script::Value;
 use spec_tree::Port;
 
 /// The runner of this number; none of a number that no runner can have.
-pub fn runner_of(number: u32) -> Option<u8> {
+pub fn runner_of(number: u32) -> Option<u8>
+    ensures { result ≡ reads.runner_numbered number }
+{
     u8::try_from(number).ok()
 }
 
 /// The number of a status, if there is one.
-fn number_of(status: Option<Status>) -> u32 {
+fn number_of(status: Option<Status>) -> u32
+    ensures { result ≡ numbers.status_told status }
+{
     match status {
         Some(status) => u32::from(status_number(status)),
         None => u32::from(NO_STATUS),
@@ -23,7 +35,9 @@ fn number_of(status: Option<Status>) -> u32 {
 }
 
 /// Copies a name, if there is one.
-pub fn copy_name(name: Option<&Name>, room: &mut [u8]) -> usize {
+pub fn copy_name(name: Option<&Name>, room: &mut [u8]) -> usize
+    ensures { TextTold (reads.text_given (option_copied name.entry)) room.old result room.new }
+{
     match name {
         Some(name) => copy_text(name.list(), room),
         None => 0,
@@ -32,7 +46,9 @@ pub fn copy_name(name: Option<&Name>, room: &mut [u8]) -> usize {
 
 impl Hosted {
     /// The kind of a node.
-    fn node_kind(&self, uid: u32) -> u32 {
+    fn node_kind(&self, uid: u32) -> u32
+        ensures { result ≡ reads.kind_told (reads.label_at self.now.session uid) }
+    {
         match self.session.label(uid) {
             Some(label) => kind_number(label.kind),
             None => 0,
@@ -40,7 +56,9 @@ impl Hosted {
     }
 
     /// The scope in which a node stands.
-    fn node_scope(&self, uid: u32) -> u32 {
+    fn node_scope(&self, uid: u32) -> u32
+        ensures { result ≡ reads.scope_told (reads.label_at self.now.session uid) }
+    {
         match self.session.label(uid) {
             Some(label) => label.scope,
             None => 0,
@@ -48,7 +66,9 @@ impl Hosted {
     }
 
     /// Copies the ID of a node.
-    fn node_id(&self, uid: u32, room: &mut [u8]) -> usize {
+    fn node_id(&self, uid: u32, room: &mut [u8]) -> usize
+        ensures { TextTold (reads.id_told (reads.label_at self.now.session uid)) room.old result room.new }
+    {
         match self.session.label(uid) {
             Some(label) => copy_text(label.id.list(), room),
             None => 0,
@@ -56,7 +76,9 @@ impl Hosted {
     }
 
     /// Copies the name of a node.
-    fn node_name(&self, uid: u32, room: &mut [u8]) -> usize {
+    fn node_name(&self, uid: u32, room: &mut [u8]) -> usize
+        ensures { TextTold (reads.name_told (reads.label_at self.now.session uid)) room.old result room.new }
+    {
         match self.session.label(uid) {
             Some(label) => copy_text(label.name.list(), room),
             None => 0,
@@ -64,7 +86,9 @@ impl Hosted {
     }
 
     /// Copies the path of a node.
-    fn node_path(&self, uid: u32, room: &mut [u8]) -> usize {
+    fn node_path(&self, uid: u32, room: &mut [u8]) -> usize
+        ensures { TextTold (reads.path_told (reads.label_at self.now.session uid)) room.old result room.new }
+    {
         match self.session.label(uid) {
             Some(label) => copy_text(label.path.list(), room),
             None => 0,
@@ -72,7 +96,9 @@ impl Hosted {
     }
 
     /// The status of a node of a runner's tree.
-    fn status(&self, runner: u32, uid: u32) -> u32 {
+    fn status(&self, runner: u32, uid: u32) -> u32
+        ensures { result ≡ numbers.status_told (reads.status_read self.now.session runner uid) }
+    {
         match runner_of(runner) {
             Some(runner) => number_of(self.session.status(runner, uid)),
             None => u32::from(NO_STATUS),
@@ -80,12 +106,16 @@ impl Hosted {
     }
 
     /// The status of the root of a runner's tree.
-    fn root_status(&self, runner: u32) -> u32 {
+    fn root_status(&self, runner: u32) -> u32
+        ensures { result ≡ numbers.status_told (reads.status_read self.now.session runner 1) }
+    {
         self.status(runner, 1)
     }
 
     /// How many ports a node gives.
-    fn port_count(&self, uid: u32) -> usize {
+    fn port_count(&self, uid: u32) -> usize
+        ensures { result ≡ length (reads.ports_told (reads.label_at self.now.session uid)) }
+    {
         match self.session.label(uid) {
             Some(label) => label.ports.list().len(),
             None => 0,
@@ -93,12 +123,19 @@ impl Hosted {
     }
 
     /// Lends the port of a node at a place.
-    fn port_at(&self, uid: u32, place: usize) -> Option<&Port> {
-        self.session.label(uid)?.ports.list().get(place)
+    fn port_at(&self, uid: u32, place: usize) -> Option<&Port>
+        ensures { option_copied result ≡ reads.port_at self.now.session uid place }
+    {
+        match self.session.label(uid) {
+            Some(label) => label.ports.list().get(place),
+            None => None,
+        }
     }
 
     /// Copies the name of the port of a node at a place.
-    fn port_name(&self, uid: u32, place: usize, room: &mut [u8]) -> usize {
+    fn port_name(&self, uid: u32, place: usize, room: &mut [u8]) -> usize
+        ensures { TextTold (reads.port_name (reads.port_at self.now.session uid place)) room.old result room.new }
+    {
         match self.port_at(uid, place) {
             Some(port) => copy_text(port.name.list(), room),
             None => 0,
@@ -106,7 +143,9 @@ impl Hosted {
     }
 
     /// What the port of a node at a place is given.
-    fn port_given(&self, uid: u32, place: usize) -> Valued {
+    fn port_given(&self, uid: u32, place: usize) -> Valued
+        ensures { result ≡ values.given_told (reads.port_given (reads.port_at self.now.session uid place)) }
+    {
         match self.port_at(uid, place) {
             Some(port) => given_told(&port.value),
             None => no_value(),
@@ -114,7 +153,9 @@ impl Hosted {
     }
 
     /// Copies the text or the key that the port of a node at a place is given.
-    fn port_given_text(&self, uid: u32, place: usize, room: &mut [u8]) -> usize {
+    fn port_given_text(&self, uid: u32, place: usize, room: &mut [u8]) -> usize
+        ensures { TextTold (values.given_text (reads.port_given (reads.port_at self.now.session uid place))) room.old result room.new }
+    {
         match self.port_at(uid, place) {
             Some(port) => copy_given_text(&port.value, room),
             None => 0,
@@ -122,32 +163,46 @@ impl Hosted {
     }
 
     /// Lends the value that the port of a node at a place has now.
-    fn port_value(&self, runner: u32, uid: u32, place: usize) -> Option<&Value> {
+    fn port_value(&self, runner: u32, uid: u32, place: usize) -> Option<&Value>
+        ensures { option_copied result ≡ reads.port_read self.now.session runner uid place }
+    {
         let runner = runner_of(runner)?;
         let port = self.port_at(uid, place)?;
         self.session.port(runner, uid, &port.name)
     }
 
     /// What value the port of a node at a place has now.
-    fn port(&self, runner: u32, uid: u32, place: usize) -> Valued {
+    fn port(&self, runner: u32, uid: u32, place: usize) -> Valued
+        ensures { result ≡ values.value_told (reads.port_read self.now.session runner uid place) }
+    {
         value_told(self.port_value(runner, uid, place))
     }
 
     /// Copies the text that the port of a node at a place has now.
-    fn port_text(&self, runner: u32, uid: u32, place: usize, room: &mut [u8]) -> usize {
+    fn port_text(&self, runner: u32, uid: u32, place: usize, room: &mut [u8]) -> usize
+        ensures { TextTold (values.text_of (reads.port_read self.now.session runner uid place)) room.old result room.new }
+    {
         copy_value_text(self.port_value(runner, uid, place), room)
     }
 }
 
 /// The kind of a node of the session at this pointer.
 #[unsafe(no_mangle)]
-pub unsafe extern "C" fn bt_node_kind(session: *mut u8, uid: u32) -> u32 {
+pub unsafe extern "C" fn bt_node_kind(session: *mut u8, uid: u32) -> u32
+    ghost before: { Hosted }
+    requires* { sem 𝓛 (hosted_owns session before) }
+    ensures* { sem 𝓛 (hosted_owns session before) ∗ ⌜ result ≡ reads.kind_told (reads.label_at before.session uid) ⌝ }
+{
     Hosted::node_kind(&*(session as *mut Hosted), uid)
 }
 
 /// The scope in which a node of the session at this pointer stands.
 #[unsafe(no_mangle)]
-pub unsafe extern "C" fn bt_node_scope(session: *mut u8, uid: u32) -> u32 {
+pub unsafe extern "C" fn bt_node_scope(session: *mut u8, uid: u32) -> u32
+    ghost before: { Hosted }
+    requires* { sem 𝓛 (hosted_owns session before) }
+    ensures* { sem 𝓛 (hosted_owns session before) ∗ ⌜ result ≡ reads.scope_told (reads.label_at before.session uid) ⌝ }
+{
     Hosted::node_scope(&*(session as *mut Hosted), uid)
 }
 
@@ -171,19 +226,31 @@ pub unsafe extern "C" fn bt_node_path(session: *mut u8, uid: u32, room: &mut [u8
 
 /// The status of a node of a runner's tree, in the session at this pointer.
 #[unsafe(no_mangle)]
-pub unsafe extern "C" fn bt_status(session: *mut u8, runner: u32, uid: u32) -> u32 {
+pub unsafe extern "C" fn bt_status(session: *mut u8, runner: u32, uid: u32) -> u32
+    ghost before: { Hosted }
+    requires* { sem 𝓛 (hosted_owns session before) }
+    ensures* { sem 𝓛 (hosted_owns session before) ∗ ⌜ result ≡ numbers.status_told (reads.status_read before.session runner uid) ⌝ }
+{
     Hosted::status(&*(session as *mut Hosted), runner, uid)
 }
 
 /// The status of the root of a runner's tree, in the session at this pointer.
 #[unsafe(no_mangle)]
-pub unsafe extern "C" fn bt_root_status(session: *mut u8, runner: u32) -> u32 {
+pub unsafe extern "C" fn bt_root_status(session: *mut u8, runner: u32) -> u32
+    ghost before: { Hosted }
+    requires* { sem 𝓛 (hosted_owns session before) }
+    ensures* { sem 𝓛 (hosted_owns session before) ∗ ⌜ result ≡ numbers.status_told (reads.status_read before.session runner 1) ⌝ }
+{
     Hosted::root_status(&*(session as *mut Hosted), runner)
 }
 
 /// How many ports a node of the session at this pointer gives.
 #[unsafe(no_mangle)]
-pub unsafe extern "C" fn bt_port_count(session: *mut u8, uid: u32) -> usize {
+pub unsafe extern "C" fn bt_port_count(session: *mut u8, uid: u32) -> usize
+    ghost before: { Hosted }
+    requires* { sem 𝓛 (hosted_owns session before) }
+    ensures* { sem 𝓛 (hosted_owns session before) ∗ ⌜ result ≡ length (reads.ports_told (reads.label_at before.session uid)) ⌝ }
+{
     Hosted::port_count(&*(session as *mut Hosted), uid)
 }
 
@@ -200,7 +267,11 @@ pub unsafe extern "C" fn bt_port_name(
 
 /// What the port of a node at a place is given, in the session at this pointer.
 #[unsafe(no_mangle)]
-pub unsafe extern "C" fn bt_port_given(session: *mut u8, uid: u32, place: usize) -> Valued {
+pub unsafe extern "C" fn bt_port_given(session: *mut u8, uid: u32, place: usize) -> Valued
+    ghost before: { Hosted }
+    requires* { sem 𝓛 (hosted_owns session before) }
+    ensures* { sem 𝓛 (hosted_owns session before) ∗ ⌜ result ≡ values.given_told (reads.port_given (reads.port_at before.session uid place)) ⌝ }
+{
     Hosted::port_given(&*(session as *mut Hosted), uid, place)
 }
 
@@ -217,7 +288,11 @@ pub unsafe extern "C" fn bt_port_given_text(
 
 /// What value the port of a node at a place has now, in the session at this pointer.
 #[unsafe(no_mangle)]
-pub unsafe extern "C" fn bt_port(session: *mut u8, runner: u32, uid: u32, place: usize) -> Valued {
+pub unsafe extern "C" fn bt_port(session: *mut u8, runner: u32, uid: u32, place: usize) -> Valued
+    ghost before: { Hosted }
+    requires* { sem 𝓛 (hosted_owns session before) }
+    ensures* { sem 𝓛 (hosted_owns session before) ∗ ⌜ result ≡ values.value_told (reads.port_read before.session runner uid place) ⌝ }
+{
     Hosted::port(&*(session as *mut Hosted), runner, uid, place)
 }
 

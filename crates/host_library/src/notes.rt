@@ -1,4 +1,8 @@
 //! What the last event has done.
+ghost use Rattle.std.specs.Prelude.{◌≡◌, None, length, slice_get};
+ghost use types.Logic.{sem};
+ghost use Rattle.host_library.specs.Owned.{hosted_owns};
+ghost use Rattle.host_library.specs.Notes as told;
 
 use crate::codes::{NO_STATUS, answer_number, status_number};
 use crate::hosted::Hosted;
@@ -62,7 +66,9 @@ pub struct EntryTold {
 }
 
 /// The number of a port.
-fn port_number(port: PortId) -> u32 {
+fn port_number(port: PortId) -> u32
+    ensures { result ≡ told.port_number port }
+{
     match port {
         PortId::SuccessCount => 1,
         PortId::FailureCount => 2,
@@ -77,7 +83,9 @@ fn port_number(port: PortId) -> u32 {
 }
 
 /// The number of a cause, and of what it names.
-fn cause_numbers(cause: Cause) -> (u32, u32) {
+fn cause_numbers(cause: Cause) -> (u32, u32)
+    ensures { result ≡ told.cause_numbers cause }
+{
     match cause {
         Cause::NoEntry { slot } => (1, slot),
         Cause::NoInput { place } => (2, u32::from(place)),
@@ -91,7 +99,9 @@ fn cause_numbers(cause: Cause) -> (u32, u32) {
 }
 
 /// What is told of a note that names no cause.
-fn plain(kind: u8, runner: u8, uid: u32, before: u8, status: u8) -> NoteTold {
+fn plain(kind: u8, runner: u8, uid: u32, before: u8, status: u8) -> NoteTold
+    ensures { result ≡ told.plain kind runner uid before status }
+{
     NoteTold {
         uid,
         kind,
@@ -104,7 +114,9 @@ fn plain(kind: u8, runner: u8, uid: u32, before: u8, status: u8) -> NoteTold {
 }
 
 /// What is told of a fault.
-fn fault_told(runner: u8, uid: u32, cause: Cause) -> NoteTold {
+fn fault_told(runner: u8, uid: u32, cause: Cause) -> NoteTold
+    ensures { result ≡ told.fault_told runner uid cause }
+{
     let (cause, detail) = cause_numbers(cause);
     NoteTold {
         uid,
@@ -118,7 +130,9 @@ fn fault_told(runner: u8, uid: u32, cause: Cause) -> NoteTold {
 }
 
 /// What is told of a note.
-fn note_told(note: Note) -> NoteTold {
+fn note_told(note: Note) -> NoteTold
+    ensures { result ≡ told.note_told note }
+{
     match note {
         Note::Changed { uid, old, new } => {
             plain(1, 0, uid, status_number(old), status_number(new))
@@ -133,12 +147,16 @@ fn note_told(note: Note) -> NoteTold {
 }
 
 /// What is told where there is no note.
-fn no_note() -> NoteTold {
+fn no_note() -> NoteTold
+    ensures { result ≡ told.note_given None }
+{
     plain(0, 0, 0, NO_STATUS, NO_STATUS)
 }
 
 /// What is told of an event.
-fn event_told(header: Header) -> EventTold {
+fn event_told(header: Header) -> EventTold
+    ensures { result ≡ told.event_told header }
+{
     let (kind, runner, status, number, at_ms) = match header {
         Header::Tick { runner, at } => (1, runner, NO_STATUS, 0, at),
         Header::Halt { runner, at } => (2, runner, NO_STATUS, 0, at),
@@ -162,17 +180,23 @@ fn event_told(header: Header) -> EventTold {
 
 impl Hosted {
     /// What the last event was.
-    fn event(&self) -> EventTold {
+    fn event(&self) -> EventTold
+        ensures { result ≡ told.event_told self.now.session.block.header }
+    {
         event_told(self.session.block().header)
     }
 
     /// How many notes the last event has left.
-    fn note_count(&self) -> usize {
+    fn note_count(&self) -> usize
+        ensures { result ≡ length self.now.session.block.notes }
+    {
         self.session.block().notes.list().len()
     }
 
     /// The note of the last event at a place.
-    fn note_at(&self, place: usize) -> NoteTold {
+    fn note_at(&self, place: usize) -> NoteTold
+        ensures { result ≡ told.note_given (slice_get self.now.session.block.notes place) }
+    {
         match self.session.block().notes.list().get(place) {
             Some(note) => note_told(*note),
             None => no_note(),
@@ -192,12 +216,16 @@ impl Hosted {
     }
 
     /// How many facts the last event has changed.
-    fn changed_fact_count(&self) -> usize {
+    fn changed_fact_count(&self) -> usize
+        ensures { result ≡ length self.now.session.block.facts }
+    {
         self.session.block().facts.len()
     }
 
     /// The fact that the last event has changed at a place, in the order in which they are numbered.
-    fn changed_fact_at(&self, place: usize) -> FactTold {
+    fn changed_fact_at(&self, place: usize) -> FactTold
+        ensures { result ≡ told.fact_given (slice_get self.now.session.block.facts place) }
+    {
         match self.session.block().facts.get(place) {
             Some((fact, value)) => FactTold {
                 fact: *fact,
@@ -213,12 +241,16 @@ impl Hosted {
     }
 
     /// How many entries the last event has changed or made.
-    fn changed_entry_count(&self) -> usize {
+    fn changed_entry_count(&self) -> usize
+        ensures { result ≡ length self.now.session.block.entries }
+    {
         self.session.block().entries.len()
     }
 
     /// The entry that the last event has changed or made at a place, by runner and slot.
-    fn changed_entry_at(&self, place: usize) -> EntryTold {
+    fn changed_entry_at(&self, place: usize) -> EntryTold
+        ensures { result ≡ told.entry_given (slice_get self.now.session.block.entries place) }
+    {
         match self.session.block().entries.get(place) {
             Some((runner, slot, _)) => EntryTold {
                 runner: u32::from(*runner),
@@ -255,19 +287,31 @@ impl Hosted {
 
 /// What the last event was, in the session at this pointer.
 #[unsafe(no_mangle)]
-pub unsafe extern "C" fn bt_last_event(session: *mut u8) -> EventTold {
+pub unsafe extern "C" fn bt_last_event(session: *mut u8) -> EventTold
+    ghost before: { Hosted }
+    requires* { sem 𝓛 (hosted_owns session before) }
+    ensures* { sem 𝓛 (hosted_owns session before) ∗ ⌜ result ≡ told.event_told before.session.block.header ⌝ }
+{
     Hosted::event(&*(session as *mut Hosted))
 }
 
 /// How many notes the last event has left, in the session at this pointer.
 #[unsafe(no_mangle)]
-pub unsafe extern "C" fn bt_note_count(session: *mut u8) -> usize {
+pub unsafe extern "C" fn bt_note_count(session: *mut u8) -> usize
+    ghost before: { Hosted }
+    requires* { sem 𝓛 (hosted_owns session before) }
+    ensures* { sem 𝓛 (hosted_owns session before) ∗ ⌜ result ≡ length before.session.block.notes ⌝ }
+{
     Hosted::note_count(&*(session as *mut Hosted))
 }
 
 /// The note of the last event at a place, in the session at this pointer.
 #[unsafe(no_mangle)]
-pub unsafe extern "C" fn bt_note_at(session: *mut u8, place: usize) -> NoteTold {
+pub unsafe extern "C" fn bt_note_at(session: *mut u8, place: usize) -> NoteTold
+    ghost before: { Hosted }
+    requires* { sem 𝓛 (hosted_owns session before) }
+    ensures* { sem 𝓛 (hosted_owns session before) ∗ ⌜ result ≡ told.note_given (slice_get before.session.block.notes place) ⌝ }
+{
     Hosted::note_at(&*(session as *mut Hosted), place)
 }
 
@@ -279,25 +323,41 @@ pub unsafe extern "C" fn bt_notes(session: *mut u8, room: &mut [NoteTold]) -> us
 
 /// How many facts the last event has changed, in the session at this pointer.
 #[unsafe(no_mangle)]
-pub unsafe extern "C" fn bt_changed_fact_count(session: *mut u8) -> usize {
+pub unsafe extern "C" fn bt_changed_fact_count(session: *mut u8) -> usize
+    ghost before: { Hosted }
+    requires* { sem 𝓛 (hosted_owns session before) }
+    ensures* { sem 𝓛 (hosted_owns session before) ∗ ⌜ result ≡ length before.session.block.facts ⌝ }
+{
     Hosted::changed_fact_count(&*(session as *mut Hosted))
 }
 
 /// The fact that the last event has changed at a place, in the session at this pointer.
 #[unsafe(no_mangle)]
-pub unsafe extern "C" fn bt_changed_fact_at(session: *mut u8, place: usize) -> FactTold {
+pub unsafe extern "C" fn bt_changed_fact_at(session: *mut u8, place: usize) -> FactTold
+    ghost before: { Hosted }
+    requires* { sem 𝓛 (hosted_owns session before) }
+    ensures* { sem 𝓛 (hosted_owns session before) ∗ ⌜ result ≡ told.fact_given (slice_get before.session.block.facts place) ⌝ }
+{
     Hosted::changed_fact_at(&*(session as *mut Hosted), place)
 }
 
 /// How many entries the last event has changed or made, in the session at this pointer.
 #[unsafe(no_mangle)]
-pub unsafe extern "C" fn bt_changed_entry_count(session: *mut u8) -> usize {
+pub unsafe extern "C" fn bt_changed_entry_count(session: *mut u8) -> usize
+    ghost before: { Hosted }
+    requires* { sem 𝓛 (hosted_owns session before) }
+    ensures* { sem 𝓛 (hosted_owns session before) ∗ ⌜ result ≡ length before.session.block.entries ⌝ }
+{
     Hosted::changed_entry_count(&*(session as *mut Hosted))
 }
 
 /// The entry that the last event has changed or made at a place, in the session at this pointer.
 #[unsafe(no_mangle)]
-pub unsafe extern "C" fn bt_changed_entry_at(session: *mut u8, place: usize) -> EntryTold {
+pub unsafe extern "C" fn bt_changed_entry_at(session: *mut u8, place: usize) -> EntryTold
+    ghost before: { Hosted }
+    requires* { sem 𝓛 (hosted_owns session before) }
+    ensures* { sem 𝓛 (hosted_owns session before) ∗ ⌜ result ≡ told.entry_given (slice_get before.session.block.entries place) ⌝ }
+{
     Hosted::changed_entry_at(&*(session as *mut Hosted), place)
 }
 

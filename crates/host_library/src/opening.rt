@@ -1,4 +1,17 @@
 //! How a session is opened, and why it is not.
+ghost use Rattle.std.specs.Prelude.{◌≡◌, ◌≤◌, IsUtf8, IfOk, Ok, length};
+ghost use Rattle.core.specs.Str.{is_utf8};
+ghost use Rattle.std.specs.Option.{option_copied};
+ghost use Rattle.base_tables.specs.Runnable.{IsRunnable};
+ghost use Rattle.base_texts.specs.Stops.{Gives};
+ghost use Rattle.cli_serve.specs.Rows.{IsTreeOf};
+ghost use Rattle.spec_run.specs.Joins.{lack_of};
+ghost use Rattle.spec_session.specs.Opening.{joined, new_drivers};
+ghost use Rattle.spec_tree.specs.Limits.{most_file_bytes};
+ghost use Rattle.spec_tree.specs.Trees.{IsValid};
+ghost use Rattle.spec_world.specs.Runnable.{IsRunnableWorld};
+ghost use Rattle.world_reader.specs.Readings as readings;
+ghost use Rattle.host_library.specs.Opening.{OpenTold, OpensIn, OpensTold, ToldOpens, main_of};
 
 use crate::codes::{MISUSE, NO_MEMORY, OK, REFUSED};
 use crate::hosted::Hosted;
@@ -12,8 +25,97 @@ use host_session::Session;
 use spec_program::File;
 use spec_session::OpenFault;
 use spec_tree::Tree;
+use spec_world::World;
 use std::alloc::Global;
 use tree_reader::parse_tree;
+
+/// Why a tree is refused that opens no session without a world; the rest is want of memory.
+fn told_stop(refusal: Refusal) -> Stop<OpenFault> {
+    match refusal {
+        Refusal::World(fault) => Stop::Fault(OpenFault::World(fault)),
+        Refusal::Tree(fault) => Stop::Fault(OpenFault::Tree(fault)),
+        _ => Stop::NoMemory,
+    }
+}
+
+/// The session of a tree in a world.
+fn session_in(alloc: Global, tree: Tree, world: World) -> Result<Session, Stop<OpenFault>>
+    requires tree { IsRunnable tree }
+    requires world { IsRunnableWorld world }
+    ensures { Gives result (joined (lack_of tree world new_drivers) tree world) }
+{
+    match Session::of(alloc, tree, world) {
+        Ok(session) => Ok(session),
+        Err(Stop::Fault(fault)) => Err(Stop::Fault(OpenFault::Join(fault))),
+        Err(Stop::NoMemory) => Err(Stop::NoMemory),
+    }
+}
+
+/// The session of a tree whose leaves are all told what they answer. The bytes are those of its file.
+#[tactic(auto, using(base_tables::proofs::Runnable::runnable))]
+fn session_told(alloc: Global, bytes: &[u8], tree: Tree) -> Result<Session, Stop<OpenFault>>
+    requires bytes { length bytes.now ≤ most_file_bytes }
+    requires tree { IsTreeOf bytes.now tree }
+    requires valid { IsValid tree }
+    ensures { readings.Gives result (ToldOpens (Ok tree) bytes.now) }
+{
+    match told_world(alloc, bytes, &tree) {
+        Ok(world) => session_in(alloc, tree, world),
+        Err(refusal) => {
+            drop(tree);
+            Err(told_stop(refusal))
+        }
+    }
+}
+
+/// Opens the session of a tree whose leaves are all told what they answer.
+fn open_told(alloc: Global, bytes: &[u8], main: Option<&Name>) -> Result<Session, Stop<OpenFault>>
+    ensures { readings.Gives result (OpensTold (option_copied main.entry) bytes.now) }
+{
+    if bytes.len() as u64 > MOST_FILE_BYTES {
+        return Err(Stop::Fault(OpenFault::TreeTooLong));
+    }
+    match parse_tree(alloc, bytes, main) {
+        Ok(tree) => session_told(alloc, bytes, tree),
+        Err(Stop::Fault(fault)) => Err(Stop::Fault(OpenFault::Tree(fault))),
+        Err(Stop::NoMemory) => Err(Stop::NoMemory),
+    }
+}
+
+/// Opens the session of a tree in the world of a world script, or without one where it has no bytes.
+fn open_in(
+    alloc: Global,
+    tree: &[u8],
+    world: &[u8],
+    main: Option<&Name>,
+) -> Result<Session, Stop<OpenFault>>
+    ensures { readings.Gives result (OpensIn (option_copied main.entry) tree.now world.now) }
+{
+    if world.is_empty() {
+        open_told(alloc, tree, main)
+    } else {
+        Session::open(alloc, tree, world, main)
+    }
+}
+
+/// Opens a session with the main tree that is asked for by these bytes; by none where there are none.
+fn open(
+    alloc: Global,
+    tree: &[u8],
+    world: &[u8],
+    main: &[u8],
+) -> Result<Session, Stop<OpenFault>>
+    requires { IsUtf8 main.now }
+    ensures { readings.Gives result (OpensIn (main_of main.now) tree.now world.now) }
+{
+    if main.is_empty() {
+        return open_in(alloc, tree, world, None);
+    }
+    match Name::copied(alloc, main) {
+        Ok(main) => open_in(alloc, tree, world, Some(&main)),
+        Err(NoMemory) => Err(Stop::NoMemory),
+    }
+}
 
 /// Why files are refused that open no session.
 fn refusal_of(fault: OpenFault) -> Refusal {
@@ -24,63 +126,6 @@ fn refusal_of(fault: OpenFault) -> Refusal {
         OpenFault::World(fault) => Refusal::World(fault),
         OpenFault::Join(fault) => Refusal::Join(fault),
     }
-}
-
-/// Opens the session of a tree in the world of a world script.
-fn open_scripted(
-    alloc: Global,
-    tree: &[u8],
-    world: &[u8],
-    main: Option<&Name>,
-) -> Result<Session, Refusal> {
-    match Session::open(alloc, tree, world, main) {
-        Ok(session) => Ok(session),
-        Err(Stop::Fault(fault)) => Err(refusal_of(fault)),
-        Err(Stop::NoMemory) => Err(Refusal::NoMemory),
-    }
-}
-
-/// The session of a tree whose leaves are all told what they answer. The bytes are those of its file.
-fn session_told(alloc: Global, bytes: &[u8], tree: Tree) -> Result<Session, Refusal> {
-    match told_world(alloc, bytes, &tree) {
-        Ok(world) => Ok(Session::of(alloc, tree, world)?),
-        Err(refusal) => {
-            drop(tree);
-            Err(refusal)
-        }
-    }
-}
-
-/// Opens the session of a tree whose leaves are all told what they answer.
-fn open_told(alloc: Global, bytes: &[u8], main: Option<&Name>) -> Result<Session, Refusal> {
-    if bytes.len() as u64 > MOST_FILE_BYTES {
-        return Err(Refusal::TooLong(File::Tree));
-    }
-    let tree = parse_tree(alloc, bytes, main)?;
-    session_told(alloc, bytes, tree)
-}
-
-/// Opens the session of a tree in the world of a world script, or without one where it has no bytes.
-fn open_in(
-    alloc: Global,
-    tree: &[u8],
-    world: &[u8],
-    main: Option<&Name>,
-) -> Result<Session, Refusal> {
-    if world.is_empty() {
-        open_told(alloc, tree, main)
-    } else {
-        open_scripted(alloc, tree, world, main)
-    }
-}
-
-/// Opens a session with the main tree that is asked for by these bytes; by none where there are none.
-fn open(alloc: Global, tree: &[u8], world: &[u8], main: &[u8]) -> Result<Session, Refusal> {
-    if main.is_empty() {
-        return open_in(alloc, tree, world, None);
-    }
-    let main = Name::copied(alloc, main)?;
-    open_in(alloc, tree, world, Some(&main))
 }
 
 /// A session in a block of its own.
@@ -100,9 +145,14 @@ fn open_boxed(
     tree: &[u8],
     world: &[u8],
     main: &[u8],
-) -> Result<Box<Hosted>, Refusal> {
-    let session = open(alloc, tree, world, main)?;
-    Ok(boxed(alloc, session)?)
+) -> Result<Box<Hosted>, Stop<OpenFault>> {
+    match open(alloc, tree, world, main) {
+        Ok(session) => match boxed(alloc, session) {
+            Ok(hosted) => Ok(hosted),
+            Err(NoMemory) => Err(Stop::NoMemory),
+        },
+        Err(stop) => Err(stop),
+    }
 }
 
 /// Opens a session, and hands out its pointer.
@@ -113,7 +163,9 @@ pub extern "C" fn bt_open(
     world: &[u8],
     main_id: &[u8],
     out: &mut *mut u8,
-) -> u32 {
+) -> u32
+    ensures { OpenTold (is_utf8 main_id.now) tree.now world.now main_id.now result }
+{
     if str::from_utf8(main_id).is_err() {
         return MISUSE;
     }
@@ -123,8 +175,11 @@ pub extern "C" fn bt_open(
             *out = at.cast::<u8>();
             OK
         }
-        Err(Refusal::NoMemory) => NO_MEMORY,
-        Err(_) => REFUSED,
+        Err(Stop::Fault(fault)) => {
+            drop(fault);
+            REFUSED
+        }
+        Err(Stop::NoMemory) => NO_MEMORY,
     }
 }
 
@@ -145,10 +200,11 @@ pub extern "C" fn bt_explain(
             drop(session);
             0
         }
-        Err(refusal) => {
+        Err(Stop::Fault(fault)) => {
             let mut sink = SureSink::new(alloc);
-            let _exit = write_refusal(alloc, &refusal, &mut sink);
+            let _exit = write_refusal(alloc, &refusal_of(fault), &mut sink);
             copy_text(sink.list(), room)
         }
+        Err(Stop::NoMemory) => 0,
     }
 }

@@ -1,7 +1,10 @@
 //! Texts, which are copied into room that C gives.
+ghost use Rattle.host_library.specs.Texts.{TextTold};
 
 /// Copies the front of a text into a room, as much as has place, and gives the length of the whole text.
-pub fn copy_text(text: &[u8], room: &mut [u8]) -> usize {
+pub fn copy_text(text: &[u8], room: &mut [u8]) -> usize
+    ensures { TextTold text.now room.old result room.new }
+{
     let count = text.len().min(room.len());
     room[..count].copy_from_slice(&text[..count]);
     text.len()

@@ -1,4 +1,8 @@
 //! Values of blackboard entries, ports and facts.
+ghost use Rattle.std.specs.Prelude.{◌≡◌, ◌<◌, ◌^◌, Some, length};
+ghost use Rattle.std.specs.Option.{option_copied};
+ghost use Rattle.host_library.specs.Texts.{TextTold};
+ghost use Rattle.host_library.specs.Values as values;
 
 use crate::text::copy_text;
 use spec_script::Value;
@@ -17,7 +21,9 @@ pub struct Valued {
 }
 
 /// What is told where there is no value.
-pub fn no_value() -> Valued {
+pub fn no_value() -> Valued
+    ensures { result ≡ values.no_value }
+{
     Valued {
         kind: 0,
         length: 0,
@@ -26,7 +32,9 @@ pub fn no_value() -> Valued {
 }
 
 /// What is told of a number.
-pub fn int_told(number: i64) -> Valued {
+pub fn int_told(number: i64) -> Valued
+    ensures { result ≡ values.int_told number }
+{
     Valued {
         kind: 1,
         length: 0,
@@ -35,7 +43,10 @@ pub fn int_told(number: i64) -> Valued {
 }
 
 /// What is told of a text or a key, by its kind.
-fn text_told(kind: u32, text: &[u8]) -> Valued {
+fn text_told(kind: u32, text: &[u8]) -> Valued
+    requires { length text.now < 2 ^ 32 }
+    ensures { result ≡ values.text_told kind text.now }
+{
     Valued {
         kind,
         length: text.len() as u32,
@@ -44,7 +55,9 @@ fn text_told(kind: u32, text: &[u8]) -> Valued {
 }
 
 /// What is told of a value, if there is one.
-pub fn value_told(value: Option<&Value>) -> Valued {
+pub fn value_told(value: Option<&Value>) -> Valued
+    ensures { result ≡ values.value_told (option_copied value.entry) }
+{
     match value {
         Some(Value::Int(n)) => int_told(*n),
         Some(Value::Text(text)) => text_told(2, text.list()),
@@ -53,7 +66,9 @@ pub fn value_told(value: Option<&Value>) -> Valued {
 }
 
 /// Copies the text of a value, if it is one.
-pub fn copy_value_text(value: Option<&Value>, room: &mut [u8]) -> usize {
+pub fn copy_value_text(value: Option<&Value>, room: &mut [u8]) -> usize
+    ensures { TextTold (values.text_of (option_copied value.entry)) room.old result room.new }
+{
     match value {
         Some(Value::Text(text)) => copy_text(text.list(), room),
         _ => 0,
@@ -61,7 +76,9 @@ pub fn copy_value_text(value: Option<&Value>, room: &mut [u8]) -> usize {
 }
 
 /// What is told of what a port is given.
-pub fn given_told(given: &PortValue) -> Valued {
+pub fn given_told(given: &PortValue) -> Valued
+    ensures { result ≡ values.given_told (Some given.now) }
+{
     match given {
         PortValue::Lit(value) => value_told(Some(value)),
         PortValue::Key(key) => text_told(3, key.list()),
@@ -69,7 +86,9 @@ pub fn given_told(given: &PortValue) -> Valued {
 }
 
 /// Copies the text or the key that a port is given.
-pub fn copy_given_text(given: &PortValue, room: &mut [u8]) -> usize {
+pub fn copy_given_text(given: &PortValue, room: &mut [u8]) -> usize
+    ensures { TextTold (values.given_text (Some given.now)) room.old result room.new }
+{
     match given {
         PortValue::Lit(value) => copy_value_text(Some(value), room),
         PortValue::Key(key) => copy_text(key.list(), room),
