@@ -1,5 +1,5 @@
 /// A robot moves to a goal and says so, in the shape of the tutorials of BehaviorTree.CPP 4: ports, one of them with a type of its
-/// own, an action that lasts, a subtree with its ports, and scripts. This is the program for that library; moving.cpp is the same here.
+/// own, an action that lasts, a subtree with its ports, and scripts. moving_there.cpp is for that library, and moving.cpp for this.
 #include <iostream>
 
 #include "behaviortree_cpp/bt_factory.h"
@@ -117,5 +117,6 @@ int main() {
 
   factory.registerBehaviorTreeFromText(xml_text);
   auto tree = factory.createTree("MainTree");
-  std::cout << "The tree ends with " << toStr(tree.tickWhileRunning()) << std::endl;
+  const NodeStatus status = tree.tickWhileRunning();
+  std::cout << "The tree ends with " << toStr(status) << std::endl;
 }
