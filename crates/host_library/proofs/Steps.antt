@@ -23,7 +23,7 @@ pub use denote.Laws.{Is, shows}
 pub use denote.Lend.{lends_ref, lends_shr, ref_back}
 pub use denote.Memory.{lone, mem, part_at}
 pub use denote.RattleType.{owns}
-pub use denote.Slice.{MutSlice, mut_slice_vals, mut_slice_Tells}
+pub use denote.Slice.{MutSlice, ShrSlice, mut_slice_vals, shr_slice_vals, mut_slice_Tells, shr_slice_Tells}
 pub use denote.Plain.{uint_vals, uint_Tells, uint_Makes, uint_Lawful}
 pub use denote.Signed.{sint_vals, sint_Tells, sint_Makes}
 pub use denote.RawPtr.{Ptr, RawPtr, block_ptr, null_ptr, in_a_block, rawptr_vals, rawptr_Tells}

@@ -294,13 +294,21 @@ pub unsafe extern "C" fn bt_tell(
 
 /// Gives an output of the next telling a number, in the session at this pointer.
 #[unsafe(no_mangle)]
-pub unsafe extern "C" fn bt_output_int(session: *mut u8, name: &[u8], value: i64) -> u32 {
+pub unsafe extern "C" fn bt_output_int(session: *mut u8, name: &[u8], value: i64) -> u32
+    ghost before: { Hosted }
+    requires* { sem 𝓛 (hosted_owns session before) }
+    ensures* { ∃ₛ (λ (after : HostedOf). sem 𝓛 (hosted_owns session after) ∗ ⌜ IntGiven before name.now value result after ⌝) }
+{
     Hosted::output_int(&mut *(session as *mut Hosted), name, value)
 }
 
 /// Gives an output of the next telling a text, in the session at this pointer.
 #[unsafe(no_mangle)]
-pub unsafe extern "C" fn bt_output_text(session: *mut u8, name: &[u8], text: &[u8]) -> u32 {
+pub unsafe extern "C" fn bt_output_text(session: *mut u8, name: &[u8], text: &[u8]) -> u32
+    ghost before: { Hosted }
+    requires* { sem 𝓛 (hosted_owns session before) }
+    ensures* { ∃ₛ (λ (after : HostedOf). sem 𝓛 (hosted_owns session after) ∗ ⌜ TextGiven before name.now text.now result after ⌝) }
+{
     Hosted::output_text(&mut *(session as *mut Hosted), name, text)
 }
 
