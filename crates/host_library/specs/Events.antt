@@ -1,6 +1,6 @@
 -- What each event of a host in C gives and leaves.
 use Rattle.std.specs.Prelude.{◌≡◌, ◌⊎◌, ℕ, ℤ, nat_eq, nat_le, nat_lt, ◌&&◌, List, [], ◌∷◌, ◌++◌, length, Bool, true, false, if◌then◌else◌, Option, Some, None, Result}
-use Rattle.core.specs.Str.{is_utf8}
+use Rattle.std.specs.Str.{is_utf8}
 use Rattle.host_session.specs.Reads.{next_moment}
 use Rattle.spec_script.specs.declared.value.Value.TheVariants.{Int, Text}
 use Rattle.spec_session.specs.declared.ended.Ended.{Ended}

@@ -81,6 +81,6 @@ fact_given (Some changed) = record { fact = changed.0; known = 1; value = change
 fact_given None = record { fact = 0; known = 0; value = pos 0 }
 
 -- the entry that has changed or is new at a place, if there is one
-abbrev pub entry_given : Option (ℕ × (ℕ × Value)) → EntryTold
-entry_given (Some changed) = record { runner = changed.0; slot = changed.1.0; known = 1; unused = 0 }
+abbrev pub entry_given : Option (ℕ × ℕ × Value) → EntryTold
+entry_given (Some changed) = record { runner = changed.0; slot = changed.1; known = 1; unused = 0 }
 entry_given None = record { runner = 0; slot = 0; known = 0; unused = 0 }

@@ -1,5 +1,5 @@
 -- Values of entries, ports and facts, as C is told them.
-use Rattle.std.specs.Prelude.{ℕ, ℤ, pos, List, [], length, Option, Some, None}
+use Rattle.std.specs.Prelude.{ℕ, ℤ, pos, min, List, [], length, Option, Some, None}
 use Rattle.spec_script.specs.declared.value.Value.{Value}
 use Rattle.spec_script.specs.declared.value.Value.TheVariants.{Int, Text}
 use Rattle.spec_tree.specs.declared.term.PortValue.{PortValue}
@@ -12,9 +12,9 @@ no_value = record { kind = 0; length = 0; number = pos 0 }
 abbrev pub int_told : ℤ → Valued
 int_told n = record { kind = 1; length = 0; number = n }
 
--- a text is of kind 2, and the key of an entry of kind 3
+-- a text is of kind 2, and the key of an entry of kind 3; a length has 32 bits
 abbrev pub text_told : ℕ → List ℕ → Valued
-text_told kind text = record { kind = kind; length = length text; number = pos 0 }
+text_told kind text = record { kind = kind; length = min (length text) 4294967295; number = pos 0 }
 
 abbrev pub value_told : Option Value → Valued
 value_told (Some (Int n)) = int_told n

@@ -1,20 +1,24 @@
 //! The events of a session.
-ghost use Rattle.std.specs.Prelude.{◌≡◌, ◌<◌, [], ◌∷◌, ◌++◌, IfNone, IfOk, IfSome, IsUtf8, OnErr, OnOk, Some};
+ghost use Rattle.std.specs.Prelude.{◌≡◌, ◌<◌, ◌≤◌, [], ◌∷◌, ◌++◌, IfNone, IfOk, IfSome, IsTrue, IsUtf8, OnErr, OnOk, Some, length};
 ghost use types.Logic.{sem};
 ghost use Rattle.host_library.specs.declared.hosted.Hosted.{Hosted as HostedOf};
 ghost use Rattle.spec_world.specs.declared.world.Telling.TheVariants.{Success};
+ghost use Rattle.spec_script.specs.declared.value.Value.TheVariants.{Text};
+ghost use Rattle.spec_world.specs.Worlds.{is_name};
+ghost use Rattle.host_session.specs.Reads.{next_moment};
 ghost use Rattle.host_library.specs.Codes.{no_memory, ok};
-ghost use Rattle.host_library.specs.Events.{Finishes, Forgets, Halts, IntGiven, LeafTold, Nexts, Sets, TellTold, Tells, TextGiven, Ticks, has_place};
+ghost use Rattle.host_library.specs.Events.{Finishes, Forgets, Halts, IntGiven, LeafTold, Nexts, Sets, TellTold, Tells, TextGiven, Ticks, has_place, is_due, text_fits};
 ghost use Rattle.host_library.specs.Owned.{hosted_owns};
 
 use crate::codes::{FAULT, MISUSE, NO_EVENT, NO_MEMORY, OK, code_of};
 use crate::hosted::Hosted;
-use base_texts::{Items, Name, NoMemory, Txt};
+use crate::text::is_utf8;
 use base_tables::{MOST_OUTPUTS, MOST_TEXT_BYTES};
+use base_texts::{Items, NoMemory, Txt};
 use spec_script::Value;
 use spec_world::{Telling, ToldOut, What};
 use std::alloc::Global;
-use world_draft::is_name;
+use world_draft::{is_name, name_of};
 
 /// The number of the status SUCCESS.
 const SUCCESS: u32 = 2;
@@ -71,24 +75,35 @@ impl Hosted {
         }
     }
 
-    /// Makes the next of the world's own events, where its moment is this one or before it.
+    /// Whether the next of the world's own events is at this moment or before it.
+    fn is_due(&self, until: u64) -> bool
+        ensures { result ≡ is_due (next_moment self.now.session.own) until }
+    {
+        match self.session.next_at() {
+            Some(at) => at <= until,
+            None => false,
+        }
+    }
+
+    /// Makes the next of the world's own events, where it is due.
     fn next(&mut self, until: u64) -> u32
         ensures { Nexts self.old until result self.new }
     {
-        match self.session.next_at() {
-            Some(at) if at <= until => code_of(self.session.own_event()),
-            _ => NO_EVENT,
+        if self.is_due(until) {
+            code_of(self.session.own_event())
+        } else {
+            NO_EVENT
         }
     }
 
     /// Adds an output to those that the next telling has.
     fn add_out(&mut self, name: &[u8], value: Value) -> Result<(), NoMemory>
-        requires { IsUtf8 name.now }
+        requires { IsTrue (is_name name.now) }
         ensures ok { OnOk result (self.new.outs.items ≡ self.old.outs.items ++ record { port = name.now; value = value } ∷ []) }
         ensures err { OnErr result (self.new.outs.items ≡ self.old.outs.items) }
         ensures session { self.new.session ≡ self.old.session }
     {
-        let port = Name::copied(self.alloc, name)?;
+        let port = name_of(self.alloc, name)?;
         self.outs.push(ToldOut { port, value })?;
         Ok(())
     }
@@ -110,17 +125,27 @@ impl Hosted {
         stored(self.add_out(name, Value::Int(value)))
     }
 
+    /// Adds an output with this text.
+    fn add_text(&mut self, name: &[u8], text: &[u8]) -> Result<(), NoMemory>
+        requires name { IsTrue (is_name name.now) }
+        requires utf8 { IsUtf8 text.now }
+        requires short { length text.now ≤ 4096 }
+        ensures ok { OnOk result (self.new.outs.items ≡ self.old.outs.items ++ record { port = name.now; value = Text text.now } ∷ []) }
+        ensures err { OnErr result (self.new.outs.items ≡ self.old.outs.items) }
+        ensures session { self.new.session ≡ self.old.session }
+    {
+        let bytes = Vec::from_slice(self.alloc, text)?;
+        self.add_out(name, Value::Text(Txt::of(bytes)))
+    }
+
     /// Gives an output a text.
     fn output_text(&mut self, name: &[u8], text: &[u8]) -> u32
         ensures { TextGiven self.old name.now text.now result self.new }
     {
-        if !self.has_place(name) || text.len() > MOST_TEXT_BYTES || str::from_utf8(text).is_err() {
+        if !self.has_place(name) || !text_fits(text) {
             return MISUSE;
         }
-        match Vec::from_slice(self.alloc, text) {
-            Ok(bytes) => stored(self.add_out(name, Value::Text(Txt::of(bytes)))),
-            Err(_) => NO_MEMORY,
-        }
+        stored(self.add_text(name, text))
     }
 
     /// Forgets the outputs.
@@ -178,6 +203,13 @@ impl Hosted {
             None => MISUSE,
         }
     }
+}
+
+/// Whether a text may be the value of an output.
+fn text_fits(text: &[u8]) -> bool
+    ensures { result ≡ text_fits text.now }
+{
+    text.len() <= MOST_TEXT_BYTES && is_utf8(text)
 }
 
 /// How the adding of an output has ended.
@@ -262,19 +294,31 @@ pub unsafe extern "C" fn bt_tell(
 
 /// Gives an output of the next telling a number, in the session at this pointer.
 #[unsafe(no_mangle)]
-pub unsafe extern "C" fn bt_output_int(session: *mut u8, name: &[u8], value: i64) -> u32 {
+pub unsafe extern "C" fn bt_output_int(session: *mut u8, name: &[u8], value: i64) -> u32
+    ghost before: { Hosted }
+    requires* { sem 𝓛 (hosted_owns session before) }
+    ensures* { ∃ₛ (λ (after : HostedOf). sem 𝓛 (hosted_owns session after) ∗ ⌜ IntGiven before name.now value result after ⌝) }
+{
     Hosted::output_int(&mut *(session as *mut Hosted), name, value)
 }
 
 /// Gives an output of the next telling a text, in the session at this pointer.
 #[unsafe(no_mangle)]
-pub unsafe extern "C" fn bt_output_text(session: *mut u8, name: &[u8], text: &[u8]) -> u32 {
+pub unsafe extern "C" fn bt_output_text(session: *mut u8, name: &[u8], text: &[u8]) -> u32
+    ghost before: { Hosted }
+    requires* { sem 𝓛 (hosted_owns session before) }
+    ensures* { ∃ₛ (λ (after : HostedOf). sem 𝓛 (hosted_owns session after) ∗ ⌜ TextGiven before name.now text.now result after ⌝) }
+{
     Hosted::output_text(&mut *(session as *mut Hosted), name, text)
 }
 
 /// Forgets the outputs for the next telling, in the session at this pointer.
 #[unsafe(no_mangle)]
-pub unsafe extern "C" fn bt_output_clear(session: *mut u8) {
+pub unsafe extern "C" fn bt_output_clear(session: *mut u8)
+    ghost before: { Hosted }
+    requires* { sem 𝓛 (hosted_owns session before) }
+    ensures* { ∃ₛ (λ (after : HostedOf). sem 𝓛 (hosted_owns session after) ∗ ⌜ Forgets before after ⌝) }
+{
     Hosted::clear_outs(&mut *(session as *mut Hosted))
 }
 

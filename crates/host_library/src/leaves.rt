@@ -1,6 +1,7 @@
 //! What is told of the rows of leaves, and what their inputs held.
 ghost use Rattle.std.specs.Prelude.{◌≡◌, length, slice_get};
 ghost use Rattle.std.specs.Option.{option_copied};
+ghost use Rattle.spec_run.specs.Leaves.{row_of};
 ghost use Rattle.spec_world.specs.Worlds.{outs_told};
 ghost use types.Logic.{sem};
 ghost use Rattle.host_library.specs.Owned.{hosted_owns};
@@ -38,6 +39,13 @@ fn outs_of(sort: &RowSort) -> &[Name]
     }
 }
 
+/// Lends the row of an ID; none where there is no such row.
+fn find_row<'a>(rows: &'a [Row], id: &Name) -> Option<&'a Row>
+    ensures { option_copied result ≡ row_of rows.now id.now }
+{
+    rows.iter().find(|row| row.id == *id)
+}
+
 impl Hosted {
     /// Lends the row of a leaf; none where no leaf has this uid.
     fn row(&self, uid: u32) -> Option<&Row>
@@ -45,13 +53,7 @@ impl Hosted {
     {
         let label = self.session.label(uid)?;
         match label.kind {
-            Kind::Leaf => self
-                .session
-                .world()
-                .rows
-                .list()
-                .iter()
-                .find(|row| row.id == label.id),
+            Kind::Leaf => find_row(self.session.world().rows.list(), &label.id),
             _ => None,
         }
     }
@@ -95,7 +97,8 @@ impl Hosted {
 
     /// Copies the name of a leaf's input at a place.
     fn input_name(&self, uid: u32, place: usize, room: &mut [u8]) -> usize
-        ensures { TextTold (reads.text_given (slice_get (reads.inputs_named (reads.row_at self.now.session uid)) place)) room.old result room.new }
+        ensures { TextTold (reads.text_given (slice_get (reads.inputs_named (reads.row_at self.now.session uid)) place))
+            room.old result room.new }
     {
         copy_name(self.input_names(uid).get(place), room)
     }
@@ -109,7 +112,8 @@ impl Hosted {
 
     /// Copies the name of a leaf's output at a place.
     fn output_name(&self, uid: u32, place: usize, room: &mut [u8]) -> usize
-        ensures { TextTold (reads.text_given (slice_get (reads.outputs_named (reads.row_at self.now.session uid)) place)) room.old result room.new }
+        ensures { TextTold (reads.text_given (slice_get (reads.outputs_named (reads.row_at self.now.session uid)) place))
+            room.old result room.new }
     {
         copy_name(self.output_names(uid).get(place), room)
     }
@@ -164,7 +168,12 @@ pub unsafe extern "C" fn bt_input_name(
     uid: u32,
     place: usize,
     room: &mut [u8],
-) -> usize {
+) -> usize
+    ghost before: { Hosted }
+    requires* { sem 𝓛 (hosted_owns session before) }
+    ensures* { sem 𝓛 (hosted_owns session before)
+        ∗ ⌜ TextTold (reads.text_given (slice_get (reads.inputs_named (reads.row_at before.session uid)) place)) room.old result room.new ⌝ }
+{
     Hosted::input_name(&*(session as *mut Hosted), uid, place, room)
 }
 
@@ -186,7 +195,12 @@ pub unsafe extern "C" fn bt_input_text(
     uid: u32,
     place: usize,
     room: &mut [u8],
-) -> usize {
+) -> usize
+    ghost before: { Hosted }
+    requires* { sem 𝓛 (hosted_owns session before) }
+    ensures* { sem 𝓛 (hosted_owns session before)
+        ∗ ⌜ TextTold (values.text_of (reads.input_read before.session runner uid place)) room.old result room.new ⌝ }
+{
     Hosted::input_text(&*(session as *mut Hosted), runner, uid, place, room)
 }
 
@@ -207,6 +221,11 @@ pub unsafe extern "C" fn bt_output_name(
     uid: u32,
     place: usize,
     room: &mut [u8],
-) -> usize {
+) -> usize
+    ghost before: { Hosted }
+    requires* { sem 𝓛 (hosted_owns session before) }
+    ensures* { sem 𝓛 (hosted_owns session before)
+        ∗ ⌜ TextTold (reads.text_given (slice_get (reads.outputs_named (reads.row_at before.session uid)) place)) room.old result room.new ⌝ }
+{
     Hosted::output_name(&*(session as *mut Hosted), uid, place, room)
 }

@@ -208,19 +208,34 @@ pub unsafe extern "C" fn bt_node_scope(session: *mut u8, uid: u32) -> u32
 
 /// Copies the ID of a node of the session at this pointer.
 #[unsafe(no_mangle)]
-pub unsafe extern "C" fn bt_node_id(session: *mut u8, uid: u32, room: &mut [u8]) -> usize {
+pub unsafe extern "C" fn bt_node_id(session: *mut u8, uid: u32, room: &mut [u8]) -> usize
+    ghost before: { Hosted }
+    requires* { sem 𝓛 (hosted_owns session before) }
+    ensures* { sem 𝓛 (hosted_owns session before)
+        ∗ ⌜ TextTold (reads.id_told (reads.label_at before.session uid)) room.old result room.new ⌝ }
+{
     Hosted::node_id(&*(session as *mut Hosted), uid, room)
 }
 
 /// Copies the name of a node of the session at this pointer.
 #[unsafe(no_mangle)]
-pub unsafe extern "C" fn bt_node_name(session: *mut u8, uid: u32, room: &mut [u8]) -> usize {
+pub unsafe extern "C" fn bt_node_name(session: *mut u8, uid: u32, room: &mut [u8]) -> usize
+    ghost before: { Hosted }
+    requires* { sem 𝓛 (hosted_owns session before) }
+    ensures* { sem 𝓛 (hosted_owns session before)
+        ∗ ⌜ TextTold (reads.name_told (reads.label_at before.session uid)) room.old result room.new ⌝ }
+{
     Hosted::node_name(&*(session as *mut Hosted), uid, room)
 }
 
 /// Copies the path of a node of the session at this pointer.
 #[unsafe(no_mangle)]
-pub unsafe extern "C" fn bt_node_path(session: *mut u8, uid: u32, room: &mut [u8]) -> usize {
+pub unsafe extern "C" fn bt_node_path(session: *mut u8, uid: u32, room: &mut [u8]) -> usize
+    ghost before: { Hosted }
+    requires* { sem 𝓛 (hosted_owns session before) }
+    ensures* { sem 𝓛 (hosted_owns session before)
+        ∗ ⌜ TextTold (reads.path_told (reads.label_at before.session uid)) room.old result room.new ⌝ }
+{
     Hosted::node_path(&*(session as *mut Hosted), uid, room)
 }
 
@@ -261,7 +276,12 @@ pub unsafe extern "C" fn bt_port_name(
     uid: u32,
     place: usize,
     room: &mut [u8],
-) -> usize {
+) -> usize
+    ghost before: { Hosted }
+    requires* { sem 𝓛 (hosted_owns session before) }
+    ensures* { sem 𝓛 (hosted_owns session before)
+        ∗ ⌜ TextTold (reads.port_name (reads.port_at before.session uid place)) room.old result room.new ⌝ }
+{
     Hosted::port_name(&*(session as *mut Hosted), uid, place, room)
 }
 
@@ -270,7 +290,8 @@ pub unsafe extern "C" fn bt_port_name(
 pub unsafe extern "C" fn bt_port_given(session: *mut u8, uid: u32, place: usize) -> Valued
     ghost before: { Hosted }
     requires* { sem 𝓛 (hosted_owns session before) }
-    ensures* { sem 𝓛 (hosted_owns session before) ∗ ⌜ result ≡ values.given_told (reads.port_given (reads.port_at before.session uid place)) ⌝ }
+    ensures* { sem 𝓛 (hosted_owns session before)
+        ∗ ⌜ result ≡ values.given_told (reads.port_given (reads.port_at before.session uid place)) ⌝ }
 {
     Hosted::port_given(&*(session as *mut Hosted), uid, place)
 }
@@ -282,7 +303,12 @@ pub unsafe extern "C" fn bt_port_given_text(
     uid: u32,
     place: usize,
     room: &mut [u8],
-) -> usize {
+) -> usize
+    ghost before: { Hosted }
+    requires* { sem 𝓛 (hosted_owns session before) }
+    ensures* { sem 𝓛 (hosted_owns session before)
+        ∗ ⌜ TextTold (values.given_text (reads.port_given (reads.port_at before.session uid place))) room.old result room.new ⌝ }
+{
     Hosted::port_given_text(&*(session as *mut Hosted), uid, place, room)
 }
 
@@ -304,6 +330,11 @@ pub unsafe extern "C" fn bt_port_text(
     uid: u32,
     place: usize,
     room: &mut [u8],
-) -> usize {
+) -> usize
+    ghost before: { Hosted }
+    requires* { sem 𝓛 (hosted_owns session before) }
+    ensures* { sem 𝓛 (hosted_owns session before)
+        ∗ ⌜ TextTold (values.text_of (reads.port_read before.session runner uid place)) room.old result room.new ⌝ }
+{
     Hosted::port_text(&*(session as *mut Hosted), runner, uid, place, room)
 }

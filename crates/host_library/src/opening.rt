@@ -1,6 +1,6 @@
 //! How a session is opened, and why it is not.
 ghost use Rattle.std.specs.Prelude.{◌≡◌, ◌≤◌, IsUtf8, IfOk, Ok, length};
-ghost use Rattle.core.specs.Str.{is_utf8};
+ghost use Rattle.std.specs.Str.{is_utf8};
 ghost use Rattle.std.specs.Option.{option_copied};
 ghost use Rattle.base_tables.specs.Runnable.{IsRunnable};
 ghost use Rattle.base_texts.specs.Stops.{Gives};
@@ -15,7 +15,7 @@ ghost use Rattle.host_library.specs.Opening.{OpenTold, OpensIn, OpensTold, ToldO
 
 use crate::codes::{MISUSE, NO_MEMORY, OK, REFUSED};
 use crate::hosted::Hosted;
-use crate::text::copy_text;
+use crate::text::{copy_text, is_utf8};
 use base_outside::SureSink;
 use base_tables::MOST_FILE_BYTES;
 use base_texts::{Name, NoMemory, Stop};
@@ -166,7 +166,7 @@ pub extern "C" fn bt_open(
 ) -> u32
     ensures { OpenTold (is_utf8 main_id.now) tree.now world.now main_id.now result }
 {
-    if str::from_utf8(main_id).is_err() {
+    if !is_utf8(main_id) {
         return MISUSE;
     }
     match open_boxed(alloc, tree, world, main_id) {
@@ -192,7 +192,7 @@ pub extern "C" fn bt_explain(
     main_id: &[u8],
     room: &mut [u8],
 ) -> usize {
-    if str::from_utf8(main_id).is_err() {
+    if !is_utf8(main_id) {
         return 0;
     }
     match open(alloc, tree, world, main_id) {

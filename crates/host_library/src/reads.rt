@@ -23,7 +23,7 @@ impl Hosted {
     fn is_usable(&self) -> u32
         ensures { result ≡ (if self.now.session.usable then 1 else 0) }
     {
-        u32::from(self.session.is_usable())
+        if self.session.is_usable() { 1 } else { 0 }
     }
 
     /// The moment of the last event.
@@ -210,7 +210,12 @@ pub unsafe extern "C" fn bt_fact(session: *mut u8, fact: u32) -> Valued
 
 /// Copies the name of a fact of the session at this pointer.
 #[unsafe(no_mangle)]
-pub unsafe extern "C" fn bt_fact_name(session: *mut u8, fact: u32, room: &mut [u8]) -> usize {
+pub unsafe extern "C" fn bt_fact_name(session: *mut u8, fact: u32, room: &mut [u8]) -> usize
+    ghost before: { Hosted }
+    requires* { sem 𝓛 (hosted_owns session before) }
+    ensures* { sem 𝓛 (hosted_owns session before)
+        ∗ ⌜ TextTold (reads.fact_named (slice_get before.session.world.facts fact)) room.old result room.new ⌝ }
+{
     Hosted::fact_name(&*(session as *mut Hosted), fact, room)
 }
 
@@ -236,7 +241,12 @@ pub unsafe extern "C" fn bt_entry_scope(session: *mut u8, slot: u32) -> u32
 
 /// Copies the key of an entry, in the session at this pointer.
 #[unsafe(no_mangle)]
-pub unsafe extern "C" fn bt_entry_key(session: *mut u8, slot: u32, room: &mut [u8]) -> usize {
+pub unsafe extern "C" fn bt_entry_key(session: *mut u8, slot: u32, room: &mut [u8]) -> usize
+    ghost before: { Hosted }
+    requires* { sem 𝓛 (hosted_owns session before) }
+    ensures* { sem 𝓛 (hosted_owns session before)
+        ∗ ⌜ TextTold (reads.cell_key (slice_get (slot_table before.session.tree).cells slot)) room.old result room.new ⌝ }
+{
     Hosted::entry_key(&*(session as *mut Hosted), slot, room)
 }
 
@@ -257,6 +267,11 @@ pub unsafe extern "C" fn bt_entry_text(
     runner: u32,
     slot: u32,
     room: &mut [u8],
-) -> usize {
+) -> usize
+    ghost before: { Hosted }
+    requires* { sem 𝓛 (hosted_owns session before) }
+    ensures* { sem 𝓛 (hosted_owns session before)
+        ∗ ⌜ TextTold (values.text_of (reads.entry_read before.session runner slot)) room.old result room.new ⌝ }
+{
     Hosted::entry_text(&*(session as *mut Hosted), runner, slot, room)
 }

@@ -1,5 +1,5 @@
 //! Values of blackboard entries, ports and facts.
-ghost use Rattle.std.specs.Prelude.{◌≡◌, ◌<◌, ◌^◌, Some, length};
+ghost use Rattle.std.specs.Prelude.{◌≡◌, Some};
 ghost use Rattle.std.specs.Option.{option_copied};
 ghost use Rattle.host_library.specs.Texts.{TextTold};
 ghost use Rattle.host_library.specs.Values as values;
@@ -42,14 +42,13 @@ pub fn int_told(number: i64) -> Valued
     }
 }
 
-/// What is told of a text or a key, by its kind.
+/// What is told of a text or a key, by its kind. A length of more than 32 bits is told as the largest number of them.
 fn text_told(kind: u32, text: &[u8]) -> Valued
-    requires { length text.now < 2 ^ 32 }
     ensures { result ≡ values.text_told kind text.now }
 {
     Valued {
         kind,
-        length: text.len() as u32,
+        length: text.len().min(u32::MAX as usize) as u32,
         number: 0,
     }
 }
