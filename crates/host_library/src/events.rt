@@ -319,7 +319,7 @@ pub unsafe extern "C" fn bt_output_clear(session: *mut u8)
     requires* { sem 𝓛 (hosted_owns session before) }
     ensures* { ∃ₛ (λ (after : HostedOf). sem 𝓛 (hosted_owns session after) ∗ ⌜ Forgets before after ⌝) }
 {
-    Hosted::clear_outs(&mut *(session as *mut Hosted))
+    Hosted::clear_outs(&mut *(session as *mut Hosted));
 }
 
 /// Makes the world's own next event up to a moment, in the session at this pointer.

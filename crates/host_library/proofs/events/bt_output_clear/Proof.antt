@@ -1,6 +1,6 @@
 -- `bt_output_clear` lends the session for the one call that it makes, and has it back.
 use Rattle.std.proofs.Common.{ℤ}
-use Rattle.host_library.proofs.Steps.{ap, only, unit, vunit, feq_l, feq_i, ◌<◌, ◌^◌, ◌++◌, w32, w64, vint, ℕ, u32, u64, i64, usize, owned, uint_vals, uint_Tells, uint_Makes, uint_Lawful, sint_vals, sint_Tells, sint_Makes, of_z, of_z_fits, mag, hbits, [], ◌∷◌, refl, MutBor, proved, full_share, SProp, emp, sep, ex, ex_i, id⊢, fst∗, never, Lft, GName, ftrue, flft, flent, named, vptr, bare, fact, fact_i, tables, sem, ‵, raw, ◌⊛◌, some, later, prop, ◌$◌, ◌∵◌, !, qed, done, move, keep, drop, use0, use1, use2, use3, split, join, fsplit, fjoin, pick, await, regoal, suffices, group, Body, lft_new, lft_end, enter, of_opd, addr, stop, no_more, and_then, returns, alloc_all, pass_all, free_all, look_at, get, through, sets, lands_as, yes, Is, shows, lends_ref, ref_back, lone, mem, part_at, Ptr, RawPtr, block_ptr, null_ptr, in_a_block, rawptr_vals, rawptr_Tells, MutRef, mut_vals, plain, nothing, heard, peeks, calls_at, lasts, on_entry, triple_of, framed, Stays, walk_of, stay_dropped, Goes-dropped, ends_at}
+use Rattle.host_library.proofs.Steps.{ap, only, unit, unit_lit, vunit, feq_l, feq_i, ◌<◌, ◌^◌, ◌++◌, w32, w64, vint, ℕ, u32, u64, i64, usize, owned, uint_vals, uint_Tells, uint_Makes, uint_Lawful, sint_vals, sint_Tells, sint_Makes, of_z, of_z_fits, mag, hbits, [], ◌∷◌, refl, MutBor, proved, full_share, SProp, emp, sep, ex, ex_i, id⊢, fst∗, never, Lft, GName, ftrue, flft, flent, named, vptr, bare, fact, fact_i, tables, sem, ‵, raw, ◌⊛◌, some, later, prop, ◌$◌, ◌∵◌, !, qed, done, move, keep, drop, use0, use1, use2, use3, split, join, fsplit, fjoin, pick, await, regoal, suffices, group, Body, lft_new, lft_end, enter, of_opd, addr, stop, no_more, and_then, returns, alloc_all, pass_all, free_all, look_at, get, through, sets, lands_as, yes, Is, shows, lends_ref, ref_back, lone, mem, part_at, Ptr, RawPtr, block_ptr, null_ptr, in_a_block, rawptr_vals, rawptr_Tells, MutRef, mut_vals, plain, nothing, heard, peeks, calls_at, lasts, on_entry, triple_of, framed, Stays, walk_of, stay_dropped, Goes-dropped, ends_at}
 use prog.Wp.{WpFn}
 use Rattle.host_library.specs.declared.hosted.Hosted.{Hosted}
 use Rattle.host_library.specs.contracts.hosted.Hosted.{the_row as R}
@@ -44,7 +44,7 @@ bt_output_clear_spec 𝓤 𝓛 𝓜 𝓡 wired =
     some (λ (ws : Hosted × Unit {0}). ‵ (lasts g.ended z.0.0 z.0.3 ws) ⊛ raw (fact 𝓤 (Forgets e ws.0)))))) (id⊢ 𝓤 _) $
     await ! tt $ pick ! (λ m. split ! $ split ! $ split ! $ lft_end ! tt $
     -- [α is over; nothing; the result; what is left; the lender's part; the right to free; the locals]
-    move ! (2 ∷ []) $ feq_l ! (λ is_unit. lands_as ! (ap only is_unit) refl (tt, tt) $
+    move ! (2 ∷ []) $ feq_l ! (λ is_unit. lands_as ! (ap only is_unit) refl (tt, tt) $ sets ! (of_opd ! (unit_lit !)) refl (tt, tt) $
     -- [α is over; nothing; what is left; the lender's part; the right to free; the locals]
     move ! (2 ∷ []) $ pick ! (λ ws. split ! $ move ! (1 ∷ []) $ heard ! _ (λ left. fsplit ! $ fsplit ! $
     -- [the last value of the loan; its borrow; nothing; α is over; nothing; the lender's part; the right to free; the locals]

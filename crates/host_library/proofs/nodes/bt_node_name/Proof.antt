@@ -32,7 +32,7 @@ bt_node_name_spec 𝓤 𝓛 𝓜 𝓡 wired =
     regoal ! (λ p. prop (WpFn 𝓤 𝓛.H 𝓣.C 𝓣.Λ code.function (rawptr_vals p ++ (vint w32 uid ∷ mut_slice_vals x)) (W.post (y p)))) same refl $
     fsplit ! $ enter ! _ _ _ _ _ $ alloc_all ! (λ l. pass_all ! refl ((tt, tt), ((tt, record { fits = low-uid }), ((tt, (tt, (record { fits = low-count }, tt))), tt))) $
     -- [the session in its block; the right to free it; the room; its token; the locals]
-    sets ! (of_opd ! (get ! refl)) refl (tt, tt) $ sets ! (addr ! (through ! refl (stop !))) refl (tt, tt) $ 
+    sets ! (of_opd ! (get ! refl)) refl (tt, tt) $ sets ! (addr ! (through ! refl (stop !))) refl (tt, tt) $ sets ! (of_opd ! (get ! refl)) refl (tt, (tt, (record { fits = low-count }, tt))) $ 
     lft_new ! tt (λ α. let κ : Lft = α ∷ [] in move ! (1 ∷ 0 ∷ []) $
     use2 𝓛 (later ((‵ ((ShrRef (named 0) κ R).own_val (record { ref_ptr = (b, o); now = e }) (vptr b o ∷ [])) ⊛ ‵ (flent κ (part_at R full_share e b o))) ⊛ ‵ (flft κ full_share)))
     (lends_shr 𝓛 R (named 0) κ full_share e b o R.lives (hosted_laws.shares 𝓛 e) ((κ, full_share) ∷ []) (within κ) (Incl-refl κ)) $ await ! tt $ split ! $ split ! $
