@@ -1,0 +1,5 @@
+pub mod ExpectFile
+pub mod Leaves
+pub mod Met
+pub mod Stories
+pub mod Verdicts
