@@ -14,8 +14,9 @@ mod telling;
 
 pub use draft::Draft;
 pub use lines::{
-    Head, WrittenOut, content, cut, head_in, int, is, is_ignored, is_line, is_name, ms, name_of,
-    names_of, numeric, one_of, outs_in, parts, trimmed, uid, without_rest,
+    Head, WrittenOut, after_gap, content, cut, head_in, int, is, is_apart, is_ignored, is_line,
+    is_name, ms, name_of, names_of, numeric, one_of, outs_in, parts, text_to_quote, trimmed, uid,
+    without_rest,
 };
 pub use reading::Reading;
 pub use telling::told_outs;
