@@ -79,6 +79,7 @@ _bt() {
             ground,WORLD | gplan,WORLD) sorts+=(ground) ;;
             *,WORLD | *,\[WORLD\]) sorts+=(world) ;;
             *,RULES) sorts+=('rules json') ;;
+            *,EXPECT) sorts+=(expect) ;;
             *,--* | *,\[--*)
                 text=${text#[}
                 options+=("${text%]}") ;;
