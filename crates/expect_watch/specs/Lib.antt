@@ -1,1 +1,5 @@
+pub mod Begun
+pub mod Memos
+pub mod States
 pub mod Tests
+pub mod Valid

@@ -1,3 +1,10 @@
+ghost use Rattle.std.specs.Prelude.{◌≡◌, [], IfOk, length};
+ghost use Rattle.std.specs.Ordering.{nat_cmp};
+ghost use Rattle.spec_script.specs.Operators as operators;
+ghost use Rattle.spec_expect.specs.Met as met;
+ghost use Rattle.expect_watch.specs.Memos.{Fits, IsMemoOf};
+ghost use Rattle.expect_watch.specs.Valid.{IsOver};
+
 use crate::held::are_together;
 use crate::notes::{is_end, is_root, is_start};
 use crate::testing::{is_so, test_of};
@@ -8,16 +15,6 @@ use spec_run::{Answer, Note};
 use spec_script::Cmp;
 use spec_world::Fact;
 use std::alloc::Global;
-
-/// What happens at one place of a run: the moment of its event in milliseconds, the note, the facts before it, and the leaves
-/// that are held after it, each with its runner.
-#[derive(Clone, Copy)]
-pub struct Happening<'a> {
-    pub at: u64,
-    pub note: Note,
-    pub facts: &'a FactTable,
-    pub held: &'a [(u8, u32)],
-}
 
 /// An expectation with what is kept of the run for it.
 #[derive(Debug, Drop)]
@@ -70,7 +67,9 @@ pub enum Memo {
 }
 
 /// Whether a count compares so with a number.
-fn compares(op: Cmp, count: u64, number: u64) -> bool {
+fn compares(op: Cmp, count: u64, number: u64) -> bool
+    ensures { result ≡ operators.compares op (nat_cmp count number) }
+{
     match op {
         Cmp::Equal => count == number,
         Cmp::Differ => count != number,
@@ -82,7 +81,9 @@ fn compares(op: Cmp, count: u64, number: u64) -> bool {
 }
 
 /// Whether a count, which may still rise, may come to compare so.
-fn may_compare(op: Cmp, count: u64, number: u64) -> bool {
+fn may_compare(op: Cmp, count: u64, number: u64) -> bool
+    ensures { result ≡ met.may_compare op count number }
+{
     match op {
         Cmp::Equal | Cmp::AtMost => count <= number,
         Cmp::Less => count < number,
@@ -96,7 +97,12 @@ pub fn memo_of(
     expectation: Expectation,
     names: &[Fact],
     facts: &FactTable,
-) -> Result<Memo, NoMemory> {
+) -> Result<Memo, NoMemory>
+    requires over { IsOver names.now expectation }
+    requires facts { length facts.now ≡ length names.now }
+    ensures memo { IfOk result (IsMemoOf names.now facts.now expectation) }
+    ensures fits { IfOk result (Fits (length facts.now)) }
+{
     match expectation {
         Expectation::Always(expr) => Ok(Memo::Always(test_of(alloc, expr, names)?)),
         Expectation::At { ms, expr } => {
@@ -142,14 +148,23 @@ pub fn memo_of(
 }
 
 impl Memo {
-    /// Takes what happens. Whether the expectation is lost with it.
-    pub fn is_lost_by(&mut self, happening: Happening<'_>) -> bool {
-        let Happening {
-            at,
-            note,
-            facts,
-            held,
-        } = happening;
+    ghost use Rattle.std.specs.Prelude.{◌≡◌, length};
+    ghost use Rattle.expect_watch.specs.Memos.{after_event, after_note};
+    ghost use Rattle.expect_watch.specs.Memos as memos;
+
+    /// Takes a note of an event at this moment, before which the facts are these, and after which these leaves are held, each
+    /// with its runner. Whether the expectation is lost with it.
+    pub fn is_lost_by(
+        &mut self,
+        at: u64,
+        note: Note,
+        facts: &FactTable,
+        held: &[(u8, u32)],
+    ) -> bool
+        requires { Fits (length facts.now) self.old }
+        ensures memo { self.new ≡ after_note at note self.old }
+        ensures lost { result ≡ memos.is_lost_by note facts.now held.now self.old }
+    {
         match self {
             Memo::Always(_) | Memo::At { .. } => false,
             Memo::By {
@@ -194,7 +209,11 @@ impl Memo {
     }
 
     /// Takes the facts after an event at this moment. Whether the expectation is lost with it.
-    pub fn is_lost_after(&mut self, at: u64, facts: &FactTable) -> bool {
+    pub fn is_lost_after(&mut self, at: u64, facts: &FactTable) -> bool
+        requires { Fits (length facts.now) self.old }
+        ensures memo { self.new ≡ after_event at facts.now self.old }
+        ensures lost { result ≡ memos.is_lost_after at facts.now self.old }
+    {
         match self {
             Memo::Always(expr) => !is_so(expr, facts),
             Memo::At {
@@ -209,13 +228,26 @@ impl Memo {
                 }
                 *is_past && !*was_so
             }
-            Memo::By { ms, is_met, .. } | Memo::Ends { ms, is_met, .. } => at > *ms && !*is_met,
-            _ => self.is_lost_now(facts),
+            _ => self.is_late(at) || self.is_lost_now(facts),
+        }
+    }
+
+    /// Whether the expectation is not met up to its moment, and this one is past it.
+    fn is_late(&self, at: u64) -> bool
+        ensures { result ≡ memos.is_late at self.now }
+    {
+        match self {
+            Memo::By { ms, is_met, .. } => at > *ms && !*is_met,
+            Memo::Ends { ms, is_met, .. } => at > *ms && !*is_met,
+            _ => false,
         }
     }
 
     /// Whether the expectation is lost by what was seen so far, before any event too.
-    pub fn is_lost_now(&self, facts: &FactTable) -> bool {
+    pub fn is_lost_now(&self, facts: &FactTable) -> bool
+        requires { Fits (length facts.now) self.now }
+        ensures { result ≡ memos.is_lost_now facts.now self.now }
+    {
         match self {
             Memo::Always(expr) => !is_so(expr, facts),
             Memo::Starts {
@@ -226,7 +258,9 @@ impl Memo {
     }
 
     /// Whether a run that ends now meets the expectation, which is not lost.
-    pub fn is_met(&self) -> bool {
+    pub fn is_met(&self) -> bool
+        ensures { result ≡ memos.is_met self.now }
+    {
         match self {
             Memo::At { is_so, .. } => *is_so,
             Memo::By { is_met, .. } | Memo::Ends { is_met, .. } => *is_met,

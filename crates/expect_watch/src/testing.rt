@@ -5,7 +5,7 @@ ghost use Rattle.run_driver.specs.Ready.{expr_reach};
 ghost use Rattle.expect_watch.specs.Tests.{is_ready_so};
 
 use base_texts::{Items, Name, NoMemory};
-use run_driver::{FactTable, ReadyExpr, ReadySort, ready};
+use run_driver::{FactTable, ReadyExpr, ReadyRow, ReadySort, ready};
 use spec_script::{Expr, Seen};
 use spec_world::{Fact, Row, RowSort};
 use std::alloc::Global;
@@ -41,8 +41,10 @@ pub fn test_of(alloc: Global, expr: Expr, facts: &[Fact]) -> Result<ReadyExpr, N
 {
     let row = condition_of(alloc, expr);
     let made = ready(alloc, &row, facts)?;
-    match made.sort {
+    let ReadyRow { sort, .. } = made;
+    match sort {
         ReadySort::When(test) => Ok(test),
+        // Of a condition with an expression none but that is made ready.
         _ => Err(NoMemory),
     }
 }
