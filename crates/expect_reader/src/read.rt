@@ -1,6 +1,6 @@
-ghost use Rattle.std.specs.Prelude.{◌≡◌, ◌≤◌, length, map};
+ghost use Rattle.std.specs.Prelude.{◌≡◌, ◌≤◌, IfOk, length, map};
 ghost use Rattle.spec_expect.specs.ExpectFile.{AfterContent, AfterLines, LinesRead, ReadsExpected};
-ghost use Rattle.spec_expect.specs.ExpectFile as file;
+ghost use Rattle.spec_expect.specs.Valid.{AreOver};
 ghost use Rattle.expect_reader.specs.Reading.{GivesItems, Leaves, located, subject_seen};
 
 use crate::forms::read_content;
@@ -96,8 +96,9 @@ pub fn read_expected(
     world: &World,
     bytes: &[u8],
 ) -> Result<Items<Expected>, Stop<ExpectFault>>
-    requires { length bytes.now ≤ 1048576 }
-    ensures { GivesItems result (ReadsExpected tree.now world.now bytes.now) }
+    requires short { length bytes.now ≤ 1048576 }
+    ensures reads { GivesItems result (ReadsExpected tree.now world.now bytes.now) }
+    ensures over { IfOk result (AreOver world.now.facts) }
 {
     let subject = subject_of(alloc, tree, world)?;
     let parts = parts(alloc, bytes, b'\n')?;

@@ -1,11 +1,7 @@
 -- The output of a run of which something is expected.
-use Rattle.std.specs.Prelude.{ℕ, ◌≡◌, List, [], ◌∷◌, ◌++◌, nat_eq, Bool, true, false, if◌then◌else◌, Option, Some, None, Result, Ok, Err}
-use Rattle.std.specs.List.{filter, flat_map}
-use Rattle.spec_run.specs.declared.block.Block.{Block}
+use Rattle.std.specs.Prelude.{ℕ, ◌≡◌, List, nat_eq, if◌then◌else◌, Option, Some, None, Result, Ok, Err}
 use Rattle.spec_run.specs.declared.fault.RunFault.{RunFault}
 use Rattle.spec_run.specs.declared.join_fault.JoinFault.{JoinFault}
-use Rattle.spec_run.specs.declared.note.Note.{Note}
-use Rattle.spec_run.specs.declared.note.Note.TheVariants.{Faulted}
 use Rattle.spec_run.specs.Drivers.{DriverState}
 use Rattle.spec_run.specs.Joins.{lack_of}
 use Rattle.spec_run.specs.Run.{Trace, run}
@@ -17,9 +13,8 @@ use Rattle.spec_world_file.specs.WorldFile.{ReadsWorld}
 use Rattle.spec_expect.specs.declared.expect_fault.ExpectFault.{ExpectFault}
 use Rattle.spec_expect.specs.declared.expectation.Expected.{Expected}
 use Rattle.spec_expect.specs.ExpectFile.{ReadsExpected}
-use Rattle.spec_expect.specs.Verdicts.{failed, lines_of, passed, sum_line}
-use Rattle.spec_output.specs.Counts.{notes_in}
-use Rattle.spec_output.specs.Lines.{line_names, note_line}
+use Rattle.spec_expect.specs.Told.{told_of}
+use Rattle.spec_expect.specs.Verdicts.{failed}
 use Rattle.spec_program.specs.declared.exit.Exit.{Exit}
 use Rattle.spec_program.specs.declared.exit.Exit.TheVariants as exit
 use Rattle.spec_program.specs.declared.file.File.TheVariants as file
@@ -30,22 +25,6 @@ use Rattle.spec_program.specs.Output.{Ending, Never, Output}
 use Rattle.spec_program.specs.Refused.{expect_refused, join_refused, too_long, tree_refused, world_refused}
 use Rattle.spec_program.specs.TreeFiles.{TreeReads}
 
--- ---- The lines
-
--- the note of the fault in which a run ends
-abbrev pub is_fault : Note → Bool
-is_fault (Faulted runner uid cause) = true
-is_fault _ = false
-
--- its line, as the trace has it; a run that ends in no fault has none
-abbrev pub fault_line : Setup → List Block → List ℕ
-fault_line of blocks = flat_map (note_line (line_names of.tree of.world)) (filter is_fault (notes_in blocks))
-
--- after a fault the line of it, and else the sum
-abbrev pub last_line : Setup → List Expected → List Block → Option RunFault → List ℕ
-last_line of expected blocks (Some fault) = fault_line of blocks
-last_line of expected blocks None = sum_line (passed of blocks expected) (failed of blocks expected)
-
 -- ---- The output
 
 abbrev pub expect_exit : Option RunFault → ℕ → Exit
@@ -55,7 +34,7 @@ expect_exit None failed = if nat_eq failed 0 then exit.Done else exit.Unmet
 -- what is written of a run of which this is expected: the line of each expectation in order, and the last one
 abbrev pub expecting : List Expected → Setup → List DriverState → Trace → Output
 expecting expected of drivers trace = record {
-  bytes = lines_of of trace.blocks expected ++ last_line of expected trace.blocks trace.fault;
+  bytes = told_of of expected trace;
   exit = expect_exit trace.fault (failed of trace.blocks expected);
   drivers = Some (roster_after_run of.tree of.world drivers trace.calls);
   asked = Never;

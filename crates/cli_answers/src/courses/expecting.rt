@@ -1,4 +1,16 @@
-ghost use Rattle.std.specs.Prelude.{◌≡◌, ◌≤◌, length};
+ghost use Rattle.std.specs.Prelude.{◌≡◌, ◌≤◌, List, None, length};
+ghost use Rattle.spec_run.specs.Joins.{first_untold};
+ghost use Rattle.spec_run.specs.Run.{opening};
+ghost use Rattle.spec_tree.specs.Trees.{nodes_of};
+ghost use Rattle.spec_output.specs.Lines.{line_names};
+ghost use Rattle.spec_expect.specs.declared.expectation.Expected.{Expected};
+ghost use Rattle.spec_program.specs.Answers.{Gave};
+ghost use Rattle.spec_program.specs.Expecting.{setup};
+ghost use Rattle.run_loop.specs.Runs.{arenas_of};
+ghost use Rattle.expect_watch.specs.Begun.{BegunOn};
+ghost use Rattle.expect_watch.specs.States as states;
+ghost use Rattle.text_trace.specs.Traces.{CanRun, state_in};
+ghost use Rattle.cli_answers.specs.Courses.Expecting.{WatchesBy, expect_exit_of, expecting_on};
 ghost use Rattle.spec_run.specs.Served.{Setup};
 ghost use Rattle.spec_run.specs.Drivers.{NothingHeld};
 ghost use Rattle.spec_run.specs.Joins.{lack_of};
@@ -28,7 +40,9 @@ use text_trace::{Expecting, run_expected};
 use tree_board::slots_of;
 
 /// The exit of a run that came out so.
-fn exit_of(ended: Result<Expecting, TextStop>) -> Exit {
+fn exit_of(ended: Result<Expecting, TextStop>) -> Exit
+    ensures { result ≡ expect_exit_of ended }
+{
     match ended {
         Ok(Expecting::Met) => Exit::Done,
         Ok(Expecting::Unmet) => Exit::Unmet,
@@ -46,7 +60,9 @@ fn watched_by(
     world: &World,
     expect: &[u8],
 ) -> Result<Watching, Stop<ExpectFault>>
-    requires { length expect.now ≤ most_file_bytes }
+    requires world { IsValidWorld world.now }
+    requires short { length expect.now ≤ most_file_bytes }
+    ensures { WatchesBy (setup tree.now world.now) expect.now result }
 {
     let expected = read_expected(alloc, tree, world, expect)?;
     Ok(watching_of(alloc, tree, world, expected)?)
@@ -60,7 +76,21 @@ fn run_watched<S: Shelf, K: Sink, C: Clock, D: Drivers>(
     runs: Runs,
     events: &[Event],
     outside: &mut Outside<S, K, C, D>,
-) -> Result<Expecting, TextStop> {
+) -> Result<Expecting, TextStop>
+    ghost of: { Setup }
+    ghost expected: { List Expected }
+    requires begun { BegunOn of expected (states.seen watching) }
+    requires names { names.now ≡ line_names of.tree of.world }
+    requires runs { CanRun of (D.states outside.old.drivers.now) runs }
+    requires opening { state_in of (D.states outside.old.drivers.now) runs ≡ opening of.tree of.world }
+    requires events { events.now ≡ of.world.events }
+    requires told { first_untold of.world.rows (nodes_of of.tree.term) of.world.events ≡ None }
+    ensures gave { Gave (expecting_on of (arenas_of runs) expected (D.states outside.old.drivers.now)) (expect_exit_of result)
+        (seen K.written K.faults C.moments D.states outside.old)
+        (seen K.written K.faults C.moments D.states outside.new) }
+    ensures unread { outside.new.shelf.now ≡ outside.old.shelf.now }
+    ensures stays { Stays S.faults K.faults D.states outside.old outside.new }
+{
     let (lines, ended) = run_expected(alloc, watching, names, runs, events, outside.drivers)?;
     write_line(outside.out, lines.as_slice())?;
     Ok(ended)
