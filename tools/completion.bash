@@ -29,7 +29,7 @@ _bt_words() {
     local place=$1 text first='' count=0 left=()
     for (( ; place < COMP_CWORD; place++)); do
         text=${COMP_WORDS[place]}
-        if [[ $text == @(--main|-o|--ticks|--expand|--period) ]]; then
+        if [[ $text == @(--main|-o|--ticks|--expand|--period|--expect) ]]; then
             ((place++))
         elif [[ $text != -* ]]; then
             first=${first:-$text}
@@ -39,6 +39,7 @@ _bt_words() {
     case ${COMP_WORDS[COMP_CWORD - 1]} in
         --main) _bt_trees "$first" ;;
         -o) _bt_files html ;;
+        --expect) _bt_files expect ;;
         --ticks | --expand | --period) ;;
         *)
             if [[ $word != -* && $count -lt ${#sorts[@]} ]]; then
@@ -95,7 +96,7 @@ _bt_names() {
 }
 
 _bt_view() {
-    local word=${COMP_WORDS[COMP_CWORD]} sorts=(xml world) options=(--main --plan -o)
+    local word=${COMP_WORDS[COMP_CWORD]} sorts=(xml world) options=(--main --plan --expect -o)
     COMPREPLY=()
     if [[ " ${COMP_WORDS[*]} " == *' --plan '* ]]; then
         sorts=(world) options=(--expand --ticks --period -o)

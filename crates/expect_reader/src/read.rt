@@ -1,6 +1,6 @@
 ghost use Rattle.std.specs.Prelude.{◌≡◌, ◌≤◌, IfOk, length, map};
 ghost use Rattle.spec_expect.specs.ExpectFile.{AfterContent, AfterLines, LinesRead, ReadsExpected};
-ghost use Rattle.spec_expect.specs.Valid.{AreOver};
+ghost use Rattle.expect_watch.specs.Over.{AreOver};
 ghost use Rattle.expect_reader.specs.Reading.{GivesItems, Leaves, located, subject_seen};
 
 use crate::forms::read_content;

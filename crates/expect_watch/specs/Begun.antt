@@ -47,6 +47,11 @@ AreBegun names facts [] [] = Unit {0}
 AreBegun names facts (e ∷ expected) (w ∷ watched) = IsBegun names facts e w × AreBegun names facts expected watched
 AreBegun names facts _ _ = ⊥
 
+-- a tree in a world, and what is expected of its run
+pub record Wanted : Type 0 where
+  pub of : Setup
+  pub expected : List Expected
+
 -- what is kept of the run of a tree in a world before its first event
 pub record BegunOn (of : Setup) (expected : List Expected) (s : State) : Type 0 where
   pub watched : AreBegun of.world.facts (opening_facts of.world) expected s.watched

@@ -1,5 +1,5 @@
 -- What is kept of a run for all that is expected of it, block by block.
-use Rattle.std.specs.Prelude.{ℕ, ℤ, List, [], ◌∷◌, map, slice_index_or, Bool, if◌then◌else◌, Option, Some, None, ◌≡◌}
+use Rattle.std.specs.Prelude.{ℕ, ℤ, List, [], ◌∷◌, map, slice_index_or, Bool, true, false, if◌then◌else◌, Option, Some, None, ◌≡◌}
 use Rattle.std.specs.List.{All}
 use Rattle.spec_run.specs.declared.block.Block.{Block}
 use Rattle.spec_run.specs.declared.note.Note.{Note}
@@ -51,6 +51,11 @@ verdict_by None memo last = if is_met memo then Pass else Fail last
 
 abbrev pub verdict_of : Watched → ℕ → Verdict
 verdict_of w last = verdict_by w.lost w.memo last
+
+-- whether it does not pass
+abbrev pub is_failed : Verdict → Bool
+is_failed Pass = false
+is_failed (Fail at) = true
 
 -- ---- All of them
 

@@ -3,7 +3,7 @@ ghost use Rattle.std.specs.Ordering.{nat_cmp};
 ghost use Rattle.spec_script.specs.Operators as operators;
 ghost use Rattle.spec_expect.specs.Met as met;
 ghost use Rattle.expect_watch.specs.Memos.{Fits, IsMemoOf};
-ghost use Rattle.spec_expect.specs.Valid.{IsOver};
+ghost use Rattle.expect_watch.specs.Over.{IsOver};
 
 use crate::held::are_together;
 use crate::notes::{is_end, is_root, is_start};

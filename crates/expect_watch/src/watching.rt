@@ -7,7 +7,7 @@ ghost use Rattle.spec_expect.specs.Stories.{sets_of};
 ghost use Rattle.expect_watch.specs.Begun.{BegunOn, IsBegun, row_at_node, sets_in, setup};
 ghost use Rattle.expect_watch.specs.Memos.{Fits};
 ghost use Rattle.expect_watch.specs.States.{effects_had, event_ended, noted, seen};
-ghost use Rattle.spec_expect.specs.Valid.{AreOver, IsOver};
+ghost use Rattle.expect_watch.specs.Over.{AreOver, IsOver};
 ghost use Rattle.expect_watch.specs.Valid.{AreFit};
 
 use crate::facts::{change, leave};

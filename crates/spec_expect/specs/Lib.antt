@@ -3,5 +3,4 @@ pub mod Leaves
 pub mod Met
 pub mod Stories
 pub mod Told
-pub mod Valid
 pub mod Verdicts

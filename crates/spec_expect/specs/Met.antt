@@ -1,6 +1,6 @@
 -- What each expectation says of a run, and when it is lost.
 use Rattle.std.specs.Prelude.{ℕ, ℤ, ◌++◌, ◌||◌, List, [], ◌∷◌, take, nat_eq, nat_le, nat_lt, Bool, true, false, not, ◌&&◌, if◌then◌else◌, Result, Ok, Err}
-use Rattle.std.specs.List.{count_by, list_all, list_any, position_or_len}
+use Rattle.std.specs.List.{count_by, filter, list_all, list_any, position_or_len}
 use Rattle.std.specs.Ordering.{nat_cmp}
 use Rattle.spec_script.specs.declared.syntax.Cmp.{Cmp}
 use Rattle.spec_script.specs.declared.syntax.Cmp.TheVariants.{Equal, Differ, Less, AtMost, More, AtLeast}
@@ -64,8 +64,7 @@ abbrev pub is_this : ℕ → ℕ → Held → Bool
 is_this runner uid leaf = nat_eq leaf.0 runner && nat_eq leaf.1 uid
 
 abbrev pub without : ℕ → ℕ → List Held → List Held
-without runner uid [] = []
-without runner uid (leaf ∷ held) = if is_this runner uid leaf then without runner uid held else leaf ∷ without runner uid held
+without runner uid held = filter (λ (leaf : Held). not (is_this runner uid leaf)) held
 
 abbrev pub with_leaf : ℕ → ℕ → List Held → List Held
 with_leaf runner uid held = if list_any (is_this runner uid) held then held else held ++ (runner, uid) ∷ []

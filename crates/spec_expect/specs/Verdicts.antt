@@ -15,10 +15,6 @@ abbrev pub verdict_of : Setup → Story → Expectation → Verdict
 verdict_of of story expectation =
     if meets of.world.facts expectation story then Pass else Fail (lost_at of.world.facts expectation story)
 
-abbrev pub is_failed : Verdict → Bool
-is_failed Pass = false
-is_failed (Fail at) = true
-
 -- the line of an expectation that has this line in its file
 abbrev pub verdict_line : ℕ → Verdict → List ℕ
 verdict_line line Pass = codes "pass " ++ decimal line ++ codes "\n"

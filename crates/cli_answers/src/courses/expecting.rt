@@ -1,13 +1,12 @@
-ghost use Rattle.std.specs.Prelude.{◌≡◌, ◌≤◌, List, None, length};
+ghost use Rattle.std.specs.Prelude.{◌≡◌, ◌≤◌, None, length};
 ghost use Rattle.spec_run.specs.Joins.{first_untold};
 ghost use Rattle.spec_run.specs.Run.{opening};
 ghost use Rattle.spec_tree.specs.Trees.{nodes_of};
 ghost use Rattle.spec_output.specs.Lines.{line_names};
-ghost use Rattle.spec_expect.specs.declared.expectation.Expected.{Expected};
 ghost use Rattle.spec_program.specs.Answers.{Gave};
 ghost use Rattle.spec_program.specs.Expecting.{setup};
 ghost use Rattle.run_loop.specs.Runs.{arenas_of};
-ghost use Rattle.expect_watch.specs.Begun.{BegunOn};
+ghost use Rattle.expect_watch.specs.Begun.{BegunOn, Wanted};
 ghost use Rattle.expect_watch.specs.States as states;
 ghost use Rattle.text_trace.specs.Traces.{CanRun, state_in};
 ghost use Rattle.cli_answers.specs.Courses.Expecting.{WatchesBy, expect_exit_of, expecting_on};
@@ -77,15 +76,14 @@ fn run_watched<S: Shelf, K: Sink, C: Clock, D: Drivers>(
     events: &[Event],
     outside: &mut Outside<S, K, C, D>,
 ) -> Result<Expecting, TextStop>
-    ghost of: { Setup }
-    ghost expected: { List Expected }
-    requires begun { BegunOn of expected (states.seen watching) }
-    requires names { names.now ≡ line_names of.tree of.world }
-    requires runs { CanRun of (D.states outside.old.drivers.now) runs }
-    requires opening { state_in of (D.states outside.old.drivers.now) runs ≡ opening of.tree of.world }
-    requires events { events.now ≡ of.world.events }
-    requires told { first_untold of.world.rows (nodes_of of.tree.term) of.world.events ≡ None }
-    ensures gave { Gave (expecting_on of (arenas_of runs) expected (D.states outside.old.drivers.now)) (expect_exit_of result)
+    ghost wanted: { Wanted }
+    requires begun { BegunOn wanted.of wanted.expected (states.seen watching) }
+    requires names { names.now ≡ line_names wanted.of.tree wanted.of.world }
+    requires runs { CanRun wanted.of (D.states outside.old.drivers.now) runs }
+    requires opening { state_in wanted.of (D.states outside.old.drivers.now) runs ≡ opening wanted.of.tree wanted.of.world }
+    requires events { events.now ≡ wanted.of.world.events }
+    requires told { first_untold wanted.of.world.rows (nodes_of wanted.of.tree.term) wanted.of.world.events ≡ None }
+    ensures gave { Gave (expecting_on wanted.of (arenas_of runs) wanted.expected (D.states outside.old.drivers.now)) (expect_exit_of result)
         (seen K.written K.faults C.moments D.states outside.old)
         (seen K.written K.faults C.moments D.states outside.new) }
     ensures unread { outside.new.shelf.now ≡ outside.old.shelf.now }

@@ -1,5 +1,4 @@
-ghost use Rattle.std.specs.Prelude.{◌≡◌};
-ghost use Rattle.std.specs.List.{find};
+ghost use Rattle.std.specs.Prelude.{◌≡◌, find};
 ghost use Rattle.spec_expect.specs.Told.{is_fault};
 ghost use Rattle.expect_watch.specs.States as states;
 ghost use Rattle.expect_watch.specs.Valid.{IsFit};

@@ -1,10 +1,8 @@
-ghost use Rattle.std.specs.Prelude.{◌≡◌, ◌++◌, IfOk, List, OnErr, OnOk};
+ghost use Rattle.std.specs.Prelude.{◌≡◌, ◌++◌, IfOk, OnErr, OnOk};
 ghost use Rattle.std.specs.List.{count_by, flat_map};
-ghost use Rattle.spec_run.specs.Served.{Setup};
-ghost use Rattle.spec_expect.specs.declared.expectation.Expected.{Expected as AnExpected};
-ghost use Rattle.spec_expect.specs.Verdicts.{is_failed, verdict_line};
+ghost use Rattle.spec_expect.specs.Verdicts.{verdict_line};
 ghost use Rattle.spec_output.specs.Lines.{line_names};
-ghost use Rattle.expect_watch.specs.Begun.{BegunOn};
+ghost use Rattle.expect_watch.specs.Begun.{BegunOn, Wanted};
 ghost use Rattle.expect_watch.specs.States as states;
 ghost use Rattle.run_loop.specs.Runs.{arenas_of};
 ghost use Rattle.text_trace.specs.Expected.{IsExpected};
@@ -39,7 +37,7 @@ pub enum Expecting {
 fn put_verdicts(out: &mut Vec<u8>, watched: &[Watched], last: u64) -> Result<u64, NoMemory>
     ensures lines { OnOk result (out.new.items
         ≡ out.old.items ++ flat_map (λ w. verdict_line w.line (states.verdict_of w last)) watched.now) }
-    ensures failed { IfOk result (λ failed. failed ≡ count_by (λ w. is_failed (states.verdict_of w last)) watched.now) }
+    ensures failed { IfOk result (λ failed. failed ≡ count_by (λ w. states.is_failed (states.verdict_of w last)) watched.now) }
 {
     let mut failed: u64 = 0;
     for one in watched {
@@ -89,17 +87,16 @@ pub fn run_expected<D: Drivers>(
     events: &[Event],
     drivers: &mut D,
 ) -> Result<(Vec<u8>, Expecting), NoMemory>
-    ghost of: { Setup }
-    ghost expected: { List AnExpected }
-    requires begun { BegunOn of expected (states.seen watching) }
-    requires names { names.now ≡ line_names of.tree of.world }
-    requires runs { CanRun of (D.states drivers.old) runs }
-    requires come { CanAllCome of runs.last events.now }
+    ghost wanted: { Wanted }
+    requires begun { BegunOn wanted.of wanted.expected (states.seen watching) }
+    requires names { names.now ≡ line_names wanted.of.tree wanted.of.world }
+    requires runs { CanRun wanted.of (D.states drivers.old) runs }
+    requires come { CanAllCome wanted.of runs.last events.now }
     ensures whole { IfOk result (λ told.
-        IsExpected of expected (arenas_of runs) (D.states drivers.old) (D.states drivers.new) told.0.items told.1
-        (trace_of of (D.states drivers.old) runs events.now)) }
+        IsExpected wanted.of wanted.expected (arenas_of runs) (D.states drivers.old) (D.states drivers.new) told.0.items told.1
+        (trace_of wanted.of (D.states drivers.old) runs events.now)) }
     ensures cut { OnErr result (IsCut (arenas_of runs) (D.states drivers.old) (D.states drivers.new)
-        (trace_of of (D.states drivers.old) runs events.now)) }
+        (trace_of wanted.of (D.states drivers.old) runs events.now)) }
     ensures kept { AreKept (D.states drivers.old) (D.states drivers.new) }
 {
     let mut expecter = Expecter {
