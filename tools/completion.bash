@@ -90,7 +90,7 @@ _bt() {
 }
 
 _bt_names() {
-    local word=${COMP_WORDS[COMP_CWORD]} sorts=(xml world) options=(--main --trees --all)
+    local word=${COMP_WORDS[COMP_CWORD]} sorts=(xml world) options=(--main --mock --expect --trees --all)
     COMPREPLY=()
     _bt_words 1
 }

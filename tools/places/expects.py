@@ -4,6 +4,7 @@ import re
 from dataclasses import dataclass
 from typing import Dict, Iterator, List, Tuple
 
+from .listing import columns
 from .marks import Finding
 from .mocks import is_match, path_of
 from .near import listed, meant
@@ -108,6 +109,7 @@ class Expects:
     def __init__(self, source: Source, file: TreeFile, world: World):
         self.source, self.file, self.world = source, file, world
         self.expected: Dict[int, ExpectLine] = {}
+        self.picks: List[Tuple[int, Pick]] = []
 
     def read(self) -> "Expects":
         """Reads all lines. Raises the fault of the first faulty one."""
@@ -152,6 +154,7 @@ class Expects:
 
     def known_leaf(self, line: ExpectLine, pick: Pick) -> None:
         """Raises where the tree has no such leaf."""
+        self.picks.append((line.number, pick))
         leaves = [node for node in self.file.nodes if node.kind == "Leaf"]
         if any(pick.is_of(node) for node in leaves):
             return
@@ -258,6 +261,16 @@ class Expects:
 def read_expects(source: Source, file: TreeFile, world: World) -> Expects:
     """Reads a file of expectations. Raises its first fault."""
     return Expects(source, file, world).read()
+
+
+def pick_lines(expects: Expects) -> List[str]:
+    """A line for each place where leaves are told: the line of the file, what tells them, and each leaf."""
+    rows = []
+    for number, pick in expects.picks:
+        leaves = [f"{node.uid} {path_of(node)}" + ("" if node.name() == node.id else f" ({node.id})")
+                  for node in expects.file.nodes if pick.is_of(node)]
+        rows.append([str(number), pick.word.text, ", ".join(leaves)])
+    return columns(rows)
 
 
 def unmet(output: str) -> Iterator[Tuple[int, int]]:
