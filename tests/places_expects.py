@@ -31,6 +31,8 @@ CASES = [
     of("a moment out of range", "Range 2", "E:2:4:", ("out of the range of moments",), "at 1000000000001 x"),
     of("a count out of range", "Range 2", "E:2:13:", ("out of the range of counts",), "starts A == -1"),
     of("the first fault by place", "NoLeaf 2", "E:2:7:", ("no leaf of the ID C",), "start C only y"),
+    of("too many expectations", "TooMany 1002", "E:1002:1:", ("expectation 1001", "at most 1000"), "always 1\n" * 1000 + "always 1"),
+    of("a file of expectations that is too long", "TooLong 0", "E: error:", ("at most 1048576",), "#" * 1048576),
     Case("an expectation that is not met", 13, "pass 2\nfail 4 0\nexpected 1 passed, 1 failed\n", "E:4:1:", ("not met, as was decided at 0 ms",), TREE, WORLD,
          "expect T W E", expect="bt-expect 1\nat 0 x == 2\n\nstarts A == 0\n"),
     Case("no file of expectations", 7, "refused read expect\n", "Z: error:", ("the file of expectations can't be read",), TREE, WORLD, "expect T W Z"),
