@@ -1,0 +1,9 @@
+//! Which leaves of a tree can be held together, whatever the world is.
+#![tactic(auto)]
+
+mod leaves;
+mod meetings;
+mod pairs;
+
+pub use leaves::missing_leaf;
+pub use pairs::{Found, MOST_PAIRS, find_pairs};
