@@ -5,7 +5,7 @@ use Rattle.cli_refusals.specs.declared.refusal.Refusal.{Refusal}
 use Rattle.base_texts.specs.declared.stop.Stop.{Stop}
 use Rattle.spec_program.specs.Output.{Output}
 use Rattle.cli_refusals.specs.Printing.{Printed}
-use Rattle.spec_program.specs.Refused.{words_refused, unread, too_long, tree_refused, world_refused, rules_refused, ground_refused, no_goal, join_refused}
+use Rattle.spec_program.specs.Refused.{words_refused, unread, too_long, tree_refused, world_refused, rules_refused, ground_refused, no_goal, no_leaf, join_refused}
 use Rattle.spec_program.specs.declared.exit.Exit.TheVariants as exit
 use Rattle.cli_refusals.specs.declared.refusal.Refusal.TheVariants as refusal
 use Rattle.base_texts.specs.declared.stop.Stop.TheVariants as stop
@@ -16,6 +16,7 @@ refused_as refusal.Words = Some words_refused
 refused_as (refusal.Unread which) = Some (unread which)
 refused_as (refusal.TooLong which) = Some (too_long which)
 refused_as (refusal.Tree fault) = Some (tree_refused fault)
+refused_as (refusal.NoLeaf id) = Some (no_leaf id)
 refused_as (refusal.World fault) = Some (world_refused fault)
 refused_as (refusal.Join fault) = Some (join_refused fault)
 refused_as refusal.NoGoal = Some no_goal

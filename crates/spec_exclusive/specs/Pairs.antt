@@ -34,9 +34,13 @@ marked uid [] = []
 marked uid (true ∷ marks) = uid ∷ marked (uid + 1) marks
 marked uid (false ∷ marks) = marked (uid + 1) marks
 
--- the leaves of a tree with listed IDs that are not dead, by their uids in rising order
+-- the leaves of a tree with listed IDs, by their uids in rising order
+abbrev pub all_listed : List (List ℕ) → Tree → List ℕ
+all_listed ids tree = marked 1 (listed_marks ids tree.term)
+
+-- .. that are not dead
 abbrev pub listed_leaves : List (List ℕ) → Tree → List ℕ
-listed_leaves ids tree = filter (λ uid. not (list_any (nat_eq uid) (dead_nodes tree))) (marked 1 (listed_marks ids tree.term))
+listed_leaves ids tree = filter (λ uid. not (list_any (nat_eq uid) (dead_nodes tree))) (all_listed ids tree)
 
 -- the first of these IDs that no leaf of the tree has
 abbrev pub missing_leaf : List (List ℕ) → Tree → Option (List ℕ)
@@ -49,11 +53,15 @@ abbrev pub may_meet : Meeting → Bool
 may_meet Never = false
 may_meet _ = true
 
+-- two leaves that meet so
+abbrev pub pair_of : ℕ → ℕ → Meeting → Pair
+pair_of earlier later meeting = record { earlier = earlier; later = later; meeting = meeting }
+
 -- the pairs of an earlier leaf and one of these later ones that may be held together, where it is known how they may meet
 abbrev pub pairs_with : (ℕ → ℕ → Meeting) → ℕ → List ℕ → List Pair
 pairs_with meeting earlier later =
     filter (λ (pair : Pair). may_meet pair.meeting)
-    (map (λ uid. let pair : Pair = record { earlier = earlier; later = uid; meeting = meeting earlier uid } in pair) later)
+    (map (λ uid. pair_of earlier uid (meeting earlier uid)) later)
 
 -- the pairs of some leaves in order
 abbrev pub pairs_among : (ℕ → ℕ → Meeting) → List ℕ → List Pair

@@ -67,6 +67,18 @@ pub(crate) struct Leaves {
     pub counts: Vec<u32>,
 }
 
+/// The number of nodes of a term.
+fn nodes_in(term: &Term) -> u32
+    requires { node_count term.now < 2 ^ 32 }
+    ensures { result ≡ node_count term.now }
+{
+    let mut count = 1;
+    for child in term.children.list() {
+        count += nodes_in(child);
+    }
+    count
+}
+
 /// For each node of a tree of so many, by its place in pre-order, whether it lives.
 fn living(alloc: Global, nodes: u32, dead: &[u32]) -> Result<Vec<bool>, NoMemory> {
     let mut lives = Vec::new(alloc);

@@ -1,9 +1,10 @@
 //! Which leaves of a tree can be held together, whatever the world is.
 #![tactic(auto)]
 
+pub mod laws;
 mod leaves;
 mod meetings;
 mod pairs;
 
 pub use leaves::missing_leaf;
-pub use pairs::{Found, MOST_PAIRS, find_pairs};
+pub use pairs::{Found, find_pairs};

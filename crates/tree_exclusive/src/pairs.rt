@@ -6,7 +6,7 @@ use spec_tree::{Term, Tree};
 use std::alloc::Global;
 
 /// The most pairs that are listed.
-pub const MOST_PAIRS: usize = 100;
+const MOST_PAIRS: usize = 100;
 
 /// The pairs of leaves that may be held together.
 #[derive(Drop)]

@@ -1,0 +1,12 @@
+pub mod Apart
+pub mod Freeing
+pub mod Held
+pub mod HeldEvents
+pub mod HeldSteps
+pub mod KindRules
+pub mod Parted
+pub mod Places
+pub mod Silent
+pub mod Terms
+pub mod Visits
+pub mod Words
