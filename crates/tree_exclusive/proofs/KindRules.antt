@@ -174,10 +174,10 @@ module _ (runner : ℕ) {X : Type 0} (term : X → Term) (parts : (c : X) → Pa
         (λ ss1 rested. chosen_quiet picked ss1 (λ k other. ap is_running (released place ss ss1 runs.others rested k (omega arith)))))
 
     judged_fresh : (n : ℕ) (a : Answer) → Fresh kind (if_then_else_after n a)
-    judged_fresh n answer.Running = any_fresh _ (pass_on_any (Chosen None) answer.Running)
-    judged_fresh n answer.Success ss none = chosen_quiet 1 ss (λ k other. none k)
-    judged_fresh n answer.Failure ss none = cond_both (nat_lt 2 n) (chosen_branch 2) (over answer.Failure) (λ rule. S kind ss rule) (λ _. chosen_quiet 2 ss (λ k other. none k)) (λ _. over_any answer.Failure ss)
-    judged_fresh n answer.Skipped = any_fresh _ (pass_on_any (Chosen None) answer.Skipped)
+    judged_fresh n answer.Running = λ ss none. pass_on_any (Chosen None) answer.Running ss
+    judged_fresh n answer.Success = λ ss none. chosen_quiet 1 ss (λ k other. none k)
+    judged_fresh n answer.Failure = λ ss none. cond_both (nat_lt 2 n) (chosen_branch 2) (over answer.Failure) (λ rule. S kind ss rule) (λ _. chosen_quiet 2 ss (λ k other. none k)) (λ _. over_any answer.Failure ss)
+    judged_fresh n answer.Skipped = λ ss none. pass_on_any (Chosen None) answer.Skipped ss
 
     if_starts : (n : ℕ) (ss : List Status) → IdleFrom 1 ss → S kind ss (if_then_else n None)
     if_starts n ss idle = visit_quiet 0 (λ a. if_then_else_after n a) (pass_on_any (Chosen None) answer.Running) (judged_fresh n) ss (λ k other. ap is_running (idle k (omega (arith, other))))
@@ -199,24 +199,24 @@ module _ (runner : ℕ) {X : Type 0} (term : X → Term) (parts : (c : X) → Pa
 
     attempt_after_fresh : (r : Recoveries) (failed : Rule) (a : Answer) → Fresh kind failed → Fresh kind (attempt_after r failed a)
     attempt_after_fresh r failed answer.Failure fresh = fresh
-    attempt_after_fresh r failed answer.Running fresh = any_fresh _ (pass_on_any (Recovering (record r { recovers = false })) answer.Running)
-    attempt_after_fresh r failed answer.Success fresh = any_fresh _ (over_any answer.Success)
-    attempt_after_fresh r failed answer.Skipped fresh = any_fresh _ (over_any answer.Skipped)
+    attempt_after_fresh r failed answer.Running fresh = λ ss none. pass_on_any (Recovering (record r { recovers = false })) answer.Running ss
+    attempt_after_fresh r failed answer.Success fresh = λ ss none. over_any answer.Success ss
+    attempt_after_fresh r failed answer.Skipped fresh = λ ss none. over_any answer.Skipped ss
 
     attempt_quiet : (r : Recoveries) (failed : Rule) → Fresh kind failed → (ss : List Status) → Quiet 0 ss → S kind ss (attempt r failed)
     attempt_quiet r failed fresh = visit_quiet 0 (λ a. attempt_after r failed a) (pass_on_any (Recovering (record r { recovers = false })) answer.Running) (λ a. attempt_after_fresh r failed a fresh)
 
     recovery_after_fresh : (r : Recoveries) (again : Rule) (a : Answer) → Fresh kind again → Fresh kind (recovery_after r again a)
     recovery_after_fresh r again answer.Success fresh = reset_fresh (span.One 1) again fresh
-    recovery_after_fresh r again answer.Running fresh = any_fresh _ (keep_any answer.Running (Recovering (record r { recovers = true })))
-    recovery_after_fresh r again answer.Failure fresh = any_fresh _ (over_any answer.Failure)
-    recovery_after_fresh r again answer.Skipped fresh = any_fresh _ (over_any answer.Failure)
+    recovery_after_fresh r again answer.Running fresh = λ ss none. keep_any answer.Running (Recovering (record r { recovers = true })) ss
+    recovery_after_fresh r again answer.Failure fresh = λ ss none. over_any answer.Failure ss
+    recovery_after_fresh r again answer.Skipped fresh = λ ss none. over_any answer.Failure ss
 
     helped_quiet : (r : Recoveries) (again : Rule) → Fresh kind again → (ss : List Status) → Quiet 1 ss → S kind ss (visit 1 (λ a. recovery_after r again a))
     helped_quiet r again fresh = visit_quiet 1 (λ a. recovery_after r again a) (keep_any answer.Running (Recovering (record r { recovers = true }))) (λ a. recovery_after_fresh r again a fresh)
 
     recover_fresh : (left : ℕ) (r : Recoveries) → Fresh kind (recover left r)
-    recover_fresh zero r = any_fresh _ (over_any answer.Failure)
+    recover_fresh zero r = λ ss none. over_any answer.Failure ss
     recover_fresh (suc left) r =
         let again : Rule = attempt (one_recovered r) (recover left (one_recovered r)) in
         reset_fresh (span.One 0) (visit 1 (λ a. recovery_after r again a))
@@ -232,15 +232,15 @@ module _ (runner : ℕ) {X : Type 0} (term : X → Term) (parts : (c : X) → Pa
     -- ---- RoundRobin
 
     robin_after_fresh : (n : ℕ) (r : Rotation) (later : Rule) (a : Answer) → Fresh kind later → Fresh kind (robin_after n r later a)
-    robin_after_fresh n r later answer.Running fresh = any_fresh _ (keep_any answer.Running (Rotating r))
+    robin_after_fresh n r later answer.Running fresh = λ ss none. keep_any answer.Running (Rotating r) ss
     robin_after_fresh n r later answer.Success fresh =
         let next : Memo = Rotating (rotation_at (next_of n r.at)) in
-        any_fresh _ (reset_any span.All (keep answer.Success next) (keep_any answer.Success next))
+        λ ss none. reset_any span.All (keep answer.Success next) (keep_any answer.Success next) ss
     robin_after_fresh n r later answer.Failure fresh = fresh
     robin_after_fresh n r later answer.Skipped fresh = fresh
 
     robin_on_fresh : (n left : ℕ) (r : Rotation) (a : Answer) → Fresh kind (robin_on n left r a)
-    robin_on_fresh n zero r a = any_fresh _ (over_any (cond (nat_eq (passed_by n a r).skipped n) answer.Skipped answer.Failure))
+    robin_on_fresh n zero r a = λ ss none. over_any (cond (nat_eq (passed_by n a r).skipped n) answer.Skipped answer.Failure) ss
     robin_on_fresh n (suc left) r a =
         let next : Rotation = passed_by n a r in
         let go : Answer → Rule = λ b. robin_after n next (robin_on n left next b) b in

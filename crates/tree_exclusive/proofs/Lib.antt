@@ -1,11 +1,16 @@
+pub mod AfterEvents
 pub mod Apart
 pub mod Freeing
+pub mod Handing
 pub mod Held
 pub mod HeldEvents
 pub mod HeldSteps
 pub mod KindRules
+pub mod Listed
+pub mod Moments
 pub mod Parted
 pub mod Places
+pub mod Said
 pub mod Silent
 pub mod Terms
 pub mod Visits

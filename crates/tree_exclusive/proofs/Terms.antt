@@ -1,5 +1,5 @@
 -- A visit of every term leaves the leaves apart that are never held together.
-use Rattle.std.proofs.Common.{◌≡◌, ℕ, ◌+◌, List, [], ◌∷◌, map, None, refl, sym, ap, subst, ◌∙◌}
+use Rattle.std.proofs.Common.{◌≡◌, ℕ, ◌+◌, List, [], ◌∷◌, map, false, None, refl, sym, ap, subst, ◌∙◌}
 use Rattle.std.proofs.lemmas.List.Sums.{sum_by-cons}
 use Rattle.std.specs.Prelude.{sum_by}
 use Rattle.base_tables.specs.Sound.{Sound, States, states_of_node}
@@ -18,7 +18,7 @@ use Rattle.tree_exclusive.proofs.Visits.{known, visit_parts}
 use Rattle.tree_exclusive.proofs.Words.{PartsOf, TermParts}
 
 -- what is known of a node above its children
-meetings_of_terms : {X : Type 0} (term : X → Term) (node : Term-F X) → meetings_of_node (map-Term X Meetings (λ c. meetings (term c)) node) ≡ meetings (above term node)
+pub meetings_of_terms : {X : Type 0} (term : X → Term) (node : Term-F X) → meetings_of_node (map-Term X Meetings (λ c. meetings (term c)) node) ≡ meetings (above term node)
 meetings_of_terms {X} term node =
     ap (λ (cs : List Meetings). meetings_of_node (record (map-Term X Meetings (λ c. meetings (term c)) node) { children = cs })) (map_twice term meetings node.children)
     ∙ sym (fold-roll-Term Meetings meetings_of_node (map-Term X Term term node))

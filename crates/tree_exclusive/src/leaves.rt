@@ -1,11 +1,11 @@
-ghost use Rattle.std.specs.Prelude.{◌≡◌, ◌&&◌, ◌++◌, ◌+◌, ◌≤◌, IfOk, OnOk, filter, length, not, nat_eq, slice_index_or, true, false};
+ghost use Rattle.std.specs.Prelude.{◌≡◌, ◌<◌, ◌≤◌, ◌+◌, ◌++◌, ◌^◌, IfOk, OnOk, filter, length, nat_eq, not};
 ghost use Rattle.std.specs.List.{list_any};
 ghost use Rattle.std.specs.Option.{option_copied};
 ghost use Rattle.spec_dead.specs.Dead.{dead_nodes};
 ghost use Rattle.spec_exclusive.specs.Pairs.{is_leaf, is_listed, listed_leaves, listed_marks, marked, missing_leaf};
 ghost use Rattle.spec_tree.specs.Terms.{leaf_ids, node_count};
 ghost use Rattle.spec_tree.specs.Trees.{IsWithinLimits};
-ghost use Rattle.tree_exclusive.specs.Steps.{counts_of, names_seen};
+ghost use Rattle.tree_exclusive.specs.Steps.{living_marked};
 
 use base_texts::{Name, NoMemory};
 use spec_tree::{Kind, Term, Tree};
@@ -24,8 +24,20 @@ fn is_listed(ids: &[Name], id: &Name) -> bool
     false
 }
 
+/// Whether a uid is among these.
+fn is_among(uids: &[u32], uid: u32) -> bool
+    ensures { result ≡ list_any (nat_eq uid) uids.now }
+{
+    for other in uids {
+        if uid == *other {
+            return true;
+        }
+    }
+    false
+}
+
 /// Whether a node of this kind is a leaf, which a row stands for.
-pub(crate) fn is_leaf(kind: Kind) -> bool
+fn is_leaf(kind: Kind) -> bool
     ensures { result ≡ is_leaf kind }
 {
     matches!(kind, Kind::Leaf)
@@ -58,74 +70,38 @@ pub fn missing_leaf<'a>(tree: &Tree, ids: &'a [Name]) -> Option<&'a Name>
     None
 }
 
-/// The leaves of a tree with listed IDs that are not dead, and how many of them are below each node.
-#[derive(Drop)]
-pub(crate) struct Leaves {
-    /// By their uids, in rising order.
-    pub uids: Vec<u32>,
-    /// For each node, in pre-order.
-    pub counts: Vec<u32>,
-}
-
-/// The number of nodes of a term.
-fn nodes_in(term: &Term) -> u32
-    requires { node_count term.now < 2 ^ 32 }
-    ensures { result ≡ node_count term.now }
-{
-    let mut count = 1;
-    for child in term.children.list() {
-        count += nodes_in(child);
-    }
-    count
-}
-
-/// For each node of a tree of so many, by its place in pre-order, whether it lives.
-fn living(alloc: Global, nodes: u32, dead: &[u32]) -> Result<Vec<bool>, NoMemory> {
-    let mut lives = Vec::new(alloc);
-    for _ in 0..nodes {
-        lives.push(true)?;
-    }
-    for uid in dead {
-        if let Some(one) = lives.get_mut((*uid as usize).saturating_sub(1)) {
-            *one = false;
-        }
-    }
-    Ok(lives)
-}
-
-/// Adds the leaves of a term with listed IDs that live, where its first node has this place in
-/// pre-order, and how many there are below each of its nodes. Gives the place after its last node.
-fn gather(
+/// Adds the leaves of a term with listed IDs that are not among the dead nodes, where its first node has
+/// this uid, and gives the uid after its last node. The error is want of memory.
+fn add_leaves(
     term: &Term,
     ids: &[Name],
-    lives: &[bool],
-    place: usize,
-    leaves: &mut Leaves,
-) -> Result<usize, NoMemory> {
-    let before = leaves.uids.len();
-    leaves.counts.push(0)?;
-    if is_leaf(term.kind) && is_listed(ids, &term.id) && lives.get(place) == Some(&true) {
-        leaves.uids.push((place + 1) as u32)?;
+    dead: &[u32],
+    uid: u32,
+    leaves: &mut Vec<u32>,
+) -> Result<u32, NoMemory>
+    requires { uid + node_count term.now < 2 ^ 32 }
+    ensures uids { OnOk result (leaves.new.items ≡ leaves.old.items ++ living_marked dead.now uid (listed_marks ids.now term.now)) }
+    ensures next { IfOk result (λ next. next ≡ uid + node_count term.now) }
+{
+    if is_leaf(term.kind) && is_listed(ids, &term.id) && !is_among(dead, uid) {
+        leaves.push(uid)?;
     }
-    let mut next = place + 1;
+    let mut next = uid + 1;
     for child in term.children.list() {
-        next = gather(child, ids, lives, next, leaves)?;
-    }
-    let here = (leaves.uids.len() - before) as u32;
-    if let Some(count) = leaves.counts.get_mut(place) {
-        *count = here;
+        next = add_leaves(child, ids, dead, next, leaves)?;
     }
     Ok(next)
 }
 
-/// The leaves of a tree with listed IDs that are not dead.
-pub(crate) fn leaves_of(alloc: Global, tree: &Tree, ids: &[Name]) -> Result<Leaves, NoMemory> {
+/// The leaves of a tree with listed IDs that are not dead, by their uids in rising order. The error is
+/// want of memory.
+pub(crate) fn leaves_of(alloc: Global, tree: &Tree, ids: &[Name]) -> Result<Vec<u32>, NoMemory>
+    requires { IsWithinLimits tree.now }
+    ensures leaves { IfOk result (λ leaves. leaves.items ≡ listed_leaves ids.now tree.now) }
+    ensures few { IfOk result (λ leaves. length leaves.items ≤ 4096) }
+{
     let dead = dead(alloc, tree)?;
-    let lives = living(alloc, nodes_in(&tree.term), dead.as_slice())?;
-    let mut leaves = Leaves {
-        uids: Vec::new(alloc),
-        counts: Vec::new(alloc),
-    };
-    gather(&tree.term, ids, lives.as_slice(), 0, &mut leaves)?;
+    let mut leaves = Vec::new(alloc);
+    add_leaves(&tree.term, ids, dead.as_slice(), 1, &mut leaves)?;
     Ok(leaves)
 }

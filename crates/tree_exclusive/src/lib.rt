@@ -5,6 +5,7 @@ pub mod laws;
 mod leaves;
 mod meetings;
 mod pairs;
+mod steps;
 
 pub use leaves::missing_leaf;
 pub use pairs::{Found, find_pairs};
