@@ -1,5 +1,6 @@
 pub mod AfterEvents
 pub mod Apart
+pub mod Exclusive
 pub mod Freeing
 pub mod Handing
 pub mod Held
