@@ -294,16 +294,10 @@ fn words_before_main(words: &[Name]) -> usize
     ensures before { take result words.now ≡ before_main words.now }
     ensures following { drop result words.now ≡ from_main words.now }
 {
-    let mut count = 0;
-    let mut rest = words;
-    while let [word, more @ ..] = rest {
-        if word.list() == b"--main".as_slice() {
-            return count;
-        }
-        count += 1;
-        rest = more;
+    match words {
+        [word, rest @ ..] if word.list() != b"--main".as_slice() => 1 + words_before_main(rest),
+        _ => 0,
     }
-    count
 }
 
 /// The command `exclusive` with these words after it.

@@ -32,16 +32,19 @@ pair_line pair = meeting_word pair.meeting ++ codes " " ++ decimal pair.earlier 
 abbrev pub pairs_line : ℕ → List ℕ
 pairs_line count = codes "pairs " ++ decimal count ++ codes "\n"
 
+-- there is no pair
+abbrev pub no_pairs : Output
+no_pairs = line_of (codes "exclusive\n") exit.Done
+
+-- these are the first of so many pairs
+abbrev pub some_pairs : List Pair → ℕ → Output
+some_pairs first count = record { bytes = concat (map pair_line first) ++ pairs_line count; exit = exit.NotExclusive; drivers = None; asked = Unasked }
+
 -- what is printed of these pairs: where there is none, that the leaves are exclusive; else the lines of the first ones, and
 -- how many there are
 abbrev pub pairs_output : List Pair → Output
-pairs_output [] = line_of (codes "exclusive\n") exit.Done
-pairs_output (pair ∷ pairs) = record {
-  bytes = concat (map pair_line (take most_pairs (pair ∷ pairs))) ++ pairs_line (length (pair ∷ pairs));
-  exit = exit.NotExclusive;
-  drivers = None;
-  asked = Unasked;
-}
+pairs_output [] = no_pairs
+pairs_output pairs = some_pairs (take most_pairs pairs) (length pairs)
 
 -- .. of the leaves of a tree, where each listed ID is that of a leaf
 abbrev pub leaves_output : Option (List ℕ) → List (List ℕ) → Tree → Output

@@ -40,7 +40,7 @@ module _ (tree : Tree) (world : World) (valid : IsValid tree) (rows : LeavesHave
 
   -- leaves that never meet are never held together
   apart : (u v : ℕ) → NeverIn (meetings tree.term) (meaning tree.term).size 1 u v → NeverTogether runner u v blocks
-  apart u v pair so_far = apart_said runner u v _ (all_take runner u v (noted_of blocks) so_far false false (from_opening u v (whole_run tree world runner events order u v pair)))
+  apart u v pair so_far = apart_said runner u v (take so_far (noted_of blocks)) (all_take runner u v (noted_of blocks) so_far false false (from_opening u v (whole_run tree world runner events order u v pair)))
 
   -- leaves that hand over are held together after no event
   handed : (u v : ℕ) → u < v → 1 ≤ u → v < 1 + (meaning tree.term).size → (meetings tree.term).meeting 1 u v ≡ Handover → NotTogetherAfterEvents runner u v blocks

@@ -15,4 +15,5 @@ pub mod Said
 pub mod Silent
 pub mod Terms
 pub mod Visits
+pub mod Ways
 pub mod Words

@@ -18,6 +18,7 @@ use Rattle.spec_run.specs.Visit.{meaning}
 use Rattle.spec_tree.specs.declared.term.Term.{Term, Term-F, fold-roll-Term}
 use Rattle.spec_tree.specs.declared.term.Term.TheFolds.{map-Term}
 use Rattle.spec_tree.specs.declared.term.Tree.{Tree}
+use Rattle.tree_exclusive.specs.Steps.{Rising}
 use Rattle.tree_exclusive.proofs.Words.{NeverIn}
 
 -- ---- What is among the elements of a list
@@ -51,11 +52,6 @@ map_in f (y ∷ ys) x has = ⊎_elim
     (cases_in y x ys has)
 
 -- ---- Leaves in rising order
-
--- each of these is at least so much, and they rise
-abbrev Rising : ℕ → List ℕ → Type 0
-Rising least [] = Unit {0}
-Rising least (x ∷ xs) = (least ≤ x) × Rising (x + 1) xs
 
 rising_from : (least lower : ℕ) (xs : List ℕ) → lower ≤ least → Rising least xs → Rising lower xs
 rising_from least lower [] low rising = tt
@@ -107,7 +103,10 @@ module _ (ids : List (List ℕ)) {X : Type 0} (term : X → Term) (each : (c : X
       ∙ sym (fold-roll-Term (List Bool) (λ n. (is_leaf n.kind && is_listed ids n.id) ∷ flat_map (λ marks. marks) n.children) (map-Term X Term term node))
 
   node_marks : (node : Term-F X) → AsMany ids (above term node) (node_means term node)
-  node_marks node = ap length (sym (marks_of_terms node)) ∙ ap suc (all_marks node.children)
+  node_marks node =
+      let below : length (flat_map (λ marks. marks) (map (λ c. listed_marks ids (term c)) node.children)) ≡ sizes (map (λ c. meaning (term c)) node.children) = all_marks node.children in
+      let one_more : suc (length (flat_map (λ marks. marks) (map (λ c. listed_marks ids (term c)) node.children))) ≡ 1 + sizes (map (λ c. meaning (term c)) node.children) = omega (arith, below) in
+      ap length (sym (marks_of_terms node)) ∙ one_more
 
 as_many : (ids : List (List ℕ)) (t : Term) → AsMany ids t (meaning t)
 as_many ids = every_term (λ t c rules. AsMany ids t c) (λ X term each node. node_marks ids term each node)
@@ -190,3 +189,7 @@ module _ (tree : Tree) (ids : List (List ℕ)) (u v : ℕ) (has_u : Contains (al
       by Never e = inl e
       by Handover e = inr e
       by Together e = absurd (none (subst (λ (m : Meeting). Contains (meeting_pairs ids tree) (pair_of u v m)) e (is_pair lives_u lives_v (ap may_meet e))))
+
+-- the leaves that are listed rise
+pub listed_rise : (ids : List (List ℕ)) (tree : Tree) → Rising 1 (listed_leaves ids tree)
+listed_rise ids tree = filter_rises (λ uid. not (is_dead tree uid)) 1 (all_listed ids tree) (marked_rises 1 (listed_marks ids tree.term))

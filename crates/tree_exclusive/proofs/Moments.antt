@@ -301,9 +301,9 @@ module _ (tree : Tree) (world : World) (runner : ℕ) where
   fresh_free (suc count) (suc uid) = fresh_free count uid
 
   opening_at : (count : ℕ) (r : Runner) → ((uid : ℕ) → held_among r.instances uid ≡ false) → (place uid : ℕ) → held_by (slice_get (replicate count r) place) uid ≡ false
-  opening_at zero r free place uid = refl
-  opening_at (suc count) r free zero uid = free uid
-  opening_at (suc count) r free (suc place) uid = opening_at count r free place uid
+  opening_at zero r none place uid = refl
+  opening_at (suc count) r none zero uid = none uid
+  opening_at (suc count) r none (suc place) uid = opening_at count r none place uid
 
   pub opening_free : (of uid : ℕ) → held (opening tree world).runners of uid ≡ false
   opening_free zero uid = refl

@@ -126,8 +126,8 @@ or_cases false b e f = e
 
 pub unnamed_among : (uid : ℕ) (uids : List ℕ) (blocks : List Block) → AllByRecursion (IsNeverNamed blocks) uids → list_any (nat_eq uid) uids ≡ true → IsNeverNamed blocks uid
 unnamed_among uid [] blocks all e = cc
-unnamed_among uid (x ∷ uids) blocks all e = by (nat_eq uid x) refl
+unnamed_among uid (x ∷ uids) blocks all e = by (nat_eq uid x) refl (λ later. unnamed_among uid uids blocks all.1 later)
   where
-    by : (b : Bool) → nat_eq uid x ≡ b → IsNeverNamed blocks uid
-    by true f = subst (IsNeverNamed blocks) (sym (eqb-true uid x f)) all.0
-    by false f = unnamed_among uid uids blocks all.1 (or_cases (nat_eq uid x) (list_any (nat_eq uid) uids) e f)
+    by : (b : Bool) → nat_eq uid x ≡ b → (list_any (nat_eq uid) uids ≡ true → IsNeverNamed blocks uid) → IsNeverNamed blocks uid
+    by true f later = subst (IsNeverNamed blocks) (sym (eqb-true uid x f)) all.0
+    by false f later = later (or_cases (nat_eq uid x) (list_any (nat_eq uid) uids) e f)

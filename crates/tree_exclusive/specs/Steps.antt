@@ -1,5 +1,5 @@
 -- The steps of the search for pairs, for private functions alone.
-use Rattle.std.specs.Prelude.{ℕ, ◌+◌, ◌≡◌, List, [], ◌∷◌, ◌++◌, filter, length, map, take, nat_eq, nat_lt, not, Bool, if◌then◌else◌, sum_by}
+use Rattle.std.specs.Prelude.{ℕ, ◌+◌, ◌≡◌, ◌≤◌, List, [], ◌∷◌, ◌++◌, filter, length, map, take, nat_eq, nat_lt, not, Bool, if◌then◌else◌, sum_by}
 use Rattle.std.specs.List.{list_any}
 use Rattle.spec_exclusive.specs.declared.meeting.Meeting.{Meeting}
 use Rattle.spec_exclusive.specs.declared.meeting.Meeting.TheVariants.{Together}
@@ -14,6 +14,11 @@ use Rattle.tree_exclusive.specs.declared.steps.Step.{Step}
 -- the nodes that are marked and not among the dead ones
 abbrev pub living_marked : List ℕ → ℕ → List Bool → List ℕ
 living_marked dead uid marks = filter (λ p. not (list_any (nat_eq p) dead)) (marked uid marks)
+
+-- each of these is at least so much, and they rise
+abbrev pub Rising : ℕ → List ℕ → Type 0
+Rising least [] = Unit {0}
+Rising least (x ∷ xs) = (least ≤ x) × Rising (x + 1) xs
 
 -- how an earlier node and a later one meet, by the steps that lead down to the earlier one: the first child that has not
 -- the later one too

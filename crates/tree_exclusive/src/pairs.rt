@@ -4,7 +4,7 @@ ghost use Rattle.spec_exclusive.specs.Pairs.{meeting_pairs, pairs_among, pairs_w
 ghost use Rattle.spec_exclusive.specs.declared.pair.Pair.{Pair as FoundPair};
 ghost use Rattle.spec_tree.specs.Terms.{node_count};
 ghost use Rattle.spec_tree.specs.Trees.{IsWithinLimits};
-ghost use Rattle.tree_exclusive.specs.Steps.{IsFound, by_steps};
+ghost use Rattle.tree_exclusive.specs.Steps.{IsFound, Rising, by_steps};
 
 use crate::leaves::leaves_of;
 use crate::meetings::may_meet;
@@ -78,6 +78,7 @@ fn add_among(
 ) -> Result<(), NoMemory>
     requires nodes { node_count term.now < 4097 }
     requires few { length leaves.now ≤ 4096 }
+    requires rising { Rising 1 leaves.now }
     requires none { found.old.count ≡ 0 }
     ensures { OnOk result ((pairs : List FoundPair) → IsFound found.old pairs →
         IsFound found.new (pairs ++ pairs_among ((meetings term.now).meeting 1) leaves.now)) }

@@ -1,10 +1,13 @@
-ghost use Rattle.std.specs.Prelude.{◌≡◌, ◌≤◌, ◌++◌, IfOk, OnOk, IsErrOf, Ok, map, take};
+ghost use Rattle.std.specs.Prelude.{◌≡◌, ◌≤◌, ◌++◌, IfOk, List, OnOk, IsErrOf, Ok, map};
 ghost use Rattle.std.specs.List.{concat};
-ghost use Rattle.spec_exclusive.specs.declared.meeting.Meeting.TheVariants as meeting;
+ghost use Rattle.cli_refusals.specs.Printing.{Printed};
+ghost use Rattle.cli_refusals.specs.Refusing.{PrintedOrRefused};
+ghost use Rattle.spec_exclusive.specs.declared.pair.Pair.{Pair as FoundPair};
 ghost use Rattle.spec_outside.specs.Appending.{Appended, AppendedPrefix};
 ghost use Rattle.spec_outside.specs.Counts.{Rose};
-ghost use Rattle.spec_program.specs.Exclusives.{exclusive_output, meeting_word, pair_line, pairs_line, pairs_output};
+ghost use Rattle.spec_program.specs.Exclusives.{exclusive_output, meeting_word, no_pairs, pair_line, pairs_line, pairs_output, some_pairs};
 ghost use Rattle.spec_tree.specs.Trees.{IsValid};
+ghost use Rattle.tree_exclusive.specs.Steps.{IsFound};
 
 use base_outside::Sink;
 use base_texts::{Name, NoMemory};
@@ -68,48 +71,76 @@ fn count_line(alloc: Global, count: u64) -> Result<Vec<u8>, NoMemory>
     Ok(line)
 }
 
-/// Writes the lines of the first pairs that were found, and how many there are.
+/// Writes the lines of these pairs, which are the first of so many, and how many there are.
 /// `TextStop::WriteFault` comes only where the sink's count of failures rose in this call.
 #[tactic(auto, using(base_outside::proofs::Appends::appending))]
-fn write_pairs<K: Sink>(alloc: Global, found: &Found, out: &mut K) -> Result<(), TextStop>
-    ensures whole { OnOk result (Appended (K.written out.old) (K.written out.new)
-        (concat (map pair_line found.now.pairs.items) ++ pairs_line found.now.count)) }
-    ensures prefix { AppendedPrefix (K.written out.old) (K.written out.new)
-        (concat (map pair_line found.now.pairs.items) ++ pairs_line found.now.count) }
+fn write_pairs<K: Sink>(
+    alloc: Global,
+    pairs: &[Pair],
+    count: u64,
+    out: &mut K,
+) -> Result<(), TextStop>
+    ensures whole { OnOk result (Appended (K.written out.old) (K.written out.new) (concat (map pair_line pairs.now) ++ pairs_line count)) }
+    ensures prefix { AppendedPrefix (K.written out.old) (K.written out.new) (concat (map pair_line pairs.now) ++ pairs_line count) }
     ensures failed { IsErrOf result TextStop.WriteFault → Rose (K.faults out.old) (K.faults out.new) }
     ensures count { K.faults out.old ≤ K.faults out.new }
 {
-    write_each(alloc, found.pairs.as_slice(), out)?;
-    let line = count_line(alloc, found.count)?;
+    write_each(alloc, pairs, out)?;
+    let line = count_line(alloc, count)?;
     write_line(out, line.as_slice())?;
     Ok(())
 }
 
-/// How the program ends where its output ends so, and this is its exit otherwise.
-fn exit_of(written: Result<(), TextStop>, exit: Exit) -> Exit {
-    match written {
-        Ok(()) => exit,
+/// Prints that the leaves are exclusive.
+fn print_none<K: Sink>(out: &mut K) -> Exit
+    ensures printed { Printed no_pairs result (K.written out.old) (K.faults out.old) (K.written out.new) (K.faults out.new) }
+    ensures count { K.faults out.old ≤ K.faults out.new }
+{
+    match write_line(out, b"exclusive\n") {
+        Ok(()) => Exit::Done,
         Err(TextStop::WriteFault) => Exit::Write,
         Err(TextStop::NoMemory) => Exit::Memory,
     }
 }
 
-/// Prints the pairs that were found: where there is none, that the leaves are exclusive.
-fn print_pairs<K: Sink>(alloc: Global, found: &Found, out: &mut K) -> Exit {
-    if found.count == 0 {
-        exit_of(write_line(out, b"exclusive\n"), Exit::Done)
-    } else {
-        exit_of(write_pairs(alloc, found, out), Exit::NotExclusive)
+/// Prints these pairs, which are the first of so many.
+fn print_some<K: Sink>(alloc: Global, pairs: &[Pair], count: u64, out: &mut K) -> Exit
+    ensures printed { Printed (some_pairs pairs.now count) result
+        (K.written out.old) (K.faults out.old) (K.written out.new) (K.faults out.new) }
+    ensures count { K.faults out.old ≤ K.faults out.new }
+{
+    match write_pairs(alloc, pairs, count, out) {
+        Ok(()) => Exit::NotExclusive,
+        Err(TextStop::WriteFault) => Exit::Write,
+        Err(TextStop::NoMemory) => Exit::Memory,
     }
 }
 
-/// Prints which leaves with these IDs may be held together. It is refused where no leaf has one of them.
+/// Prints the pairs that were found.
+fn print_pairs<K: Sink>(alloc: Global, found: &Found, out: &mut K) -> Exit
+    ensures printed { (pairs : List FoundPair) → IsFound found.now pairs → Printed (pairs_output pairs) result
+        (K.written out.old) (K.faults out.old) (K.written out.new) (K.faults out.new) }
+    ensures count { K.faults out.old ≤ K.faults out.new }
+{
+    if found.count == 0 {
+        print_none(out)
+    } else {
+        print_some(alloc, found.pairs.as_slice(), found.count, out)
+    }
+}
+
+/// Prints which leaves with these IDs may be held together. `Refusal::NoLeaf` comes exactly where no leaf
+/// has one of them, and `Refusal::NoMemory` where memory ran out before anything was written.
 pub fn print_exclusive<K: Sink>(
     alloc: Global,
     tree: &Tree,
     ids: &[Name],
     out: &mut K,
 ) -> Result<Exit, Refusal>
+    requires { IsValid tree.now }
+    ensures ended { PrintedOrRefused (exclusive_output ids.now (Ok tree.now)) result
+        (K.written out.old) (K.faults out.old) (K.written out.new) (K.faults out.new) }
+    ensures count { K.faults out.old ≤ K.faults out.new }
 {
     if let Some(id) = missing_leaf(tree, ids) {
         return Err(Refusal::NoLeaf(id.copy(alloc)?));
