@@ -26,7 +26,7 @@ use Rattle.cli_refusals.specs.declared.refusal.Refusal.TheVariants as refusal
 use Rattle.spec_program.specs.Answers.{Answers, Gave, Side, side}
 use Rattle.cli_refusals.specs.Printing.{Printed}
 use Rattle.spec_program.specs.Answered.{AnsweredAfter, AreWithin, ToldIfNamed, WordsAnswered}
-use Rattle.cli_refusals.specs.Refusing.{IsRefused, PrintedOrRefused, refused_as, stopped_as}
+use Rattle.cli_refusals.specs.Refusing.{IsRefused, refused_as, stopped_as}
 use Rattle.spec_program.specs.Refused.{too_long, tree_refused, unread, world_refused}
 use Rattle.cli_refusals.specs.Ends.{Ends, EndsAt, IsUntouched}
 use Rattle.spec_program.specs.Files.{Contents}
@@ -314,19 +314,11 @@ module _ (ids : List (List ℕ)) (main : Option (List ℕ)) (bytes : List ℕ) (
   met_stopped (stop.Fault f) a reads = refused_ends Met AreUncalled (refusal.Tree f) a (λ moments. met_gives (Err f) reads)
   met_stopped stop.NoMemory a reads = refused_ends Met AreUncalled refusal.NoMemory a (λ moments. tt)
 
-  -- what is refused is that output
-  refused_met : (o : Output) (refused : Option Output) → IfSome refused (λ r. r ≡ o) → ExclusiveGives ids main bytes o → IfSome refused (ExclusiveGives ids main bytes)
-  refused_met o None is gives = tt
-  refused_met o (Some r) is gives = subst (ExclusiveGives ids main bytes) (sym is) gives
-
-  pub met_ends : (t : Tree) (result : Result Exit Refusal) (written : Option (List ℕ)) (faults : ℕ) (a : Side) → ReadsAs (Ok t) main bytes →
-      PrintedOrRefused (exclusive_output ids (Ok t)) result a.written a.faults written faults → EndsAt Met AreUncalled result a (side written faults a.clock a.drivers)
-  met_ends t (Ok exit) written faults a reads printed =
+  pub met_printed : (t : Tree) (exit : Exit) (written : Option (List ℕ)) (faults : ℕ) (a : Side) → ReadsAs (Ok t) main bytes → Printed (exclusive_output ids (Ok t)) exit a.written a.faults written faults
+      → EndsAt Met AreUncalled (Ok exit) a (side written faults a.clock a.drivers)
+  met_printed t exit written faults a reads printed =
       at_any a.clock (λ moments. Ends (ExclusiveGives ids main bytes) AreUncalled (Ok exit) a (side written faults a.clock a.drivers))
       (λ moments. inl (exclusive_output ids (Ok t), met_gives (Ok t) reads, printed a.clock a.drivers a.drivers (λ place. refl)))
-  met_ends t (Err refusal) written faults a reads refused =
-      at_any a.clock (λ moments. Ends (ExclusiveGives ids main bytes) AreUncalled (Err refusal) a (side written faults a.clock a.drivers))
-      (λ moments. (refused_met (exclusive_output ids (Ok t)) (refused_as refusal) refused.0 (met_gives (Ok t) reads), record { written = refused.1; faults = refused.2; clock = refl; drivers = λ place. refl }))
 
 -- the bytes of a tree file and of a rules file that are not too long, of which is printed what the rules make of the tree
 module _ (main : Option (List ℕ)) (tree rules : List ℕ) (st : length tree ≤ most_file_bytes) (sr : length rules ≤ most_file_bytes) where

@@ -143,9 +143,9 @@ fn exclusive_file<S: Shelf, K: Sink, C: Clock, D: Drivers>(
     ensures stays { Stays S.faults K.faults D.states outside.old outside.new }
 {
     let tree = parse_tree(alloc, tree, main)?;
-    let ended = print_exclusive(alloc, &tree, ids, outside.out);
+    let exit = print_exclusive(alloc, &tree, ids, outside.out);
     drop(tree);
-    ended
+    Ok(exit)
 }
 
 /// Plans for the goals of the world of these bytes of a world script.

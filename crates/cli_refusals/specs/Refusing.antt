@@ -1,11 +1,11 @@
 -- Refusals, as the code names them.
-use Rattle.std.specs.Prelude.{ℕ, ◌≡◌, List, Option, Some, None, Result, Ok, Err, IfSome, MatchOption}
+use Rattle.std.specs.Prelude.{ℕ, ◌≡◌, List, Option, Some, None, MatchOption}
 use Rattle.spec_program.specs.declared.exit.Exit.{Exit}
 use Rattle.cli_refusals.specs.declared.refusal.Refusal.{Refusal}
 use Rattle.base_texts.specs.declared.stop.Stop.{Stop}
 use Rattle.spec_program.specs.Output.{Output}
 use Rattle.cli_refusals.specs.Printing.{Printed}
-use Rattle.spec_program.specs.Refused.{words_refused, unread, too_long, tree_refused, world_refused, rules_refused, ground_refused, no_goal, no_leaf, join_refused}
+use Rattle.spec_program.specs.Refused.{words_refused, unread, too_long, tree_refused, world_refused, rules_refused, ground_refused, no_goal, join_refused}
 use Rattle.spec_program.specs.declared.exit.Exit.TheVariants as exit
 use Rattle.cli_refusals.specs.declared.refusal.Refusal.TheVariants as refusal
 use Rattle.base_texts.specs.declared.stop.Stop.TheVariants as stop
@@ -16,7 +16,6 @@ refused_as refusal.Words = Some words_refused
 refused_as (refusal.Unread which) = Some (unread which)
 refused_as (refusal.TooLong which) = Some (too_long which)
 refused_as (refusal.Tree fault) = Some (tree_refused fault)
-refused_as (refusal.NoLeaf id) = Some (no_leaf id)
 refused_as (refusal.World fault) = Some (world_refused fault)
 refused_as (refusal.Join fault) = Some (join_refused fault)
 refused_as refusal.NoGoal = Some no_goal
@@ -28,13 +27,6 @@ refused_as refusal.NoMemory = None
 abbrev pub stopped_as : {F : Type 0} → (F → Refusal) → Stop F → Refusal
 stopped_as of (stop.Fault fault) = of fault
 stopped_as of stop.NoMemory = refusal.NoMemory
-
--- what a call that has the sink alone comes to: the output was given; or the call is refused, which is this output unless
--- memory ran out, and nothing was written yet
-abbrev pub PrintedOrRefused : Output → Result Exit Refusal → Option (List ℕ) → ℕ → Option (List ℕ) → ℕ → Type 0
-PrintedOrRefused o (Ok exit) written faults written_after faults_after = Printed o exit written faults written_after faults_after
-PrintedOrRefused o (Err refusal) written faults written_after faults_after =
-    IfSome (refused_as refusal) (λ refused. refused ≡ o) × (written_after ≡ written) × (faults_after ≡ faults)
 
 -- the output of a refusal was given so; out of memory nothing was written
 abbrev pub IsRefused : Refusal → Exit → Option (List ℕ) → ℕ → Option (List ℕ) → ℕ → Type 0

@@ -1,5 +1,5 @@
 ghost use Rattle.std.specs.Prelude.{◌≡◌, ◌++◌, IfOk, OnOk, codes, decimal};
-ghost use Rattle.spec_program.specs.Refusals.{build_words, driver_word, element_words, ground_words, join_words, kind_word, manifest_words, named, no_leaf_words, numbered, rules_words, script_words, tree_words, world_words};
+ghost use Rattle.spec_program.specs.Refusals.{build_words, driver_word, element_words, ground_words, join_words, kind_word, manifest_words, named, numbered, rules_words, script_words, tree_words, world_words};
 
 use base_texts::{Name, NoMemory};
 use spec_program::TreeFault;
@@ -125,17 +125,6 @@ pub fn tree_refusal(alloc: Global, fault: &TreeFault) -> Result<Vec<u8>, NoMemor
     let mut line = Vec::new(alloc);
     put_bytes(&mut line, b"refused tree ")?;
     put_tree_fault(&mut line, fault)?;
-    put_bytes(&mut line, b"\n")?;
-    Ok(line)
-}
-
-/// The line that refuses an ID that no leaf of the tree has.
-pub fn no_leaf_refusal(alloc: Global, id: &Name) -> Result<Vec<u8>, NoMemory>
-    ensures { IfOk result (λ line. line.items ≡ codes "refused tree " ++ no_leaf_words id.now ++ codes "\n") }
-{
-    let mut line = Vec::new(alloc);
-    put_bytes(&mut line, b"refused tree ")?;
-    put_named(&mut line, b"NoLeaf", id)?;
     put_bytes(&mut line, b"\n")?;
     Ok(line)
 }

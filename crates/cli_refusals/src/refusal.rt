@@ -4,9 +4,9 @@ ghost use Rattle.spec_program.specs.Refused.{too_long, unread};
 ghost use Rattle.cli_refusals.specs.Printing.{IsSpoken, Printed};
 ghost use Rattle.spec_program.specs.Output.{line_of};
 
-use crate::line::{ground_refusal, join_refusal, no_leaf_refusal, rules_refusal, tree_refusal, world_refusal};
+use crate::line::{ground_refusal, join_refusal, rules_refusal, tree_refusal, world_refusal};
 use base_outside::Sink;
-use base_texts::{Name, NoMemory, Stop};
+use base_texts::{NoMemory, Stop};
 use spec_program::{Exit, File, TreeFault};
 use spec_run::JoinFault;
 use spec_tree_file::MockFault;
@@ -25,8 +25,6 @@ pub enum Refusal {
     TooLong(File),
     /// The tree file is none.
     Tree(TreeFault),
-    /// No leaf of the tree has this ID, which is listed.
-    NoLeaf(Name),
     /// The world file is none.
     World(WorldFault),
     /// A leaf of the tree lacks a row in the world, or a driver for its row; or a row of a world for
@@ -174,10 +172,6 @@ pub fn write_refusal<K: Sink>(alloc: Global, refusal: &Refusal, out: &mut K) -> 
         Refusal::Unread(file) => write_unread(*file, out),
         Refusal::TooLong(file) => write_too_long(*file, out),
         Refusal::Tree(fault) => match tree_refusal(alloc, fault) {
-            Ok(line) => write_last(line.as_slice(), Exit::Tree, out),
-            Err(NoMemory) => Exit::Memory,
-        },
-        Refusal::NoLeaf(id) => match no_leaf_refusal(alloc, id) {
             Ok(line) => write_last(line.as_slice(), Exit::Tree, out),
             Err(NoMemory) => Exit::Memory,
         },

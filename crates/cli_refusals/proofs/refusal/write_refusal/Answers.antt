@@ -10,9 +10,6 @@ returns-in-TooLong-clause-refused g c = rw c.in-TooLong.is c.write_too_long.ensu
 pub returns-in-Ok-clause-refused : goal.returns-in-Ok-clause-refused
 returns-in-Ok-clause-refused g c = rw c.in-Tree.is (rw (c.as_slice.ensures.value ∙ c.in-Ok.ensures) at c.write_last-in-Ok.ensures.printed)
 
-pub returns-in-Ok-no_leaf_refusal-clause-refused : goal.returns-in-Ok-no_leaf_refusal-clause-refused
-returns-in-Ok-no_leaf_refusal-clause-refused g c = rw c.in-NoLeaf.is (rw (c.as_slice-in-Ok-no_leaf_refusal.ensures.value ∙ c.in-Ok-no_leaf_refusal.ensures) at c.write_last-in-Ok-no_leaf_refusal.ensures.printed)
-
 pub returns-in-Ok-world_refusal-clause-refused : goal.returns-in-Ok-world_refusal-clause-refused
 returns-in-Ok-world_refusal-clause-refused g c = rw c.in-World.is (rw (c.as_slice-in-Ok-world_refusal.ensures.value ∙ c.in-Ok-world_refusal.ensures) at c.write_last-in-Ok-world_refusal.ensures.printed)
 
