@@ -83,7 +83,7 @@ pub fn id_or_empty(alloc: Global, attributes: &[(Name, Name)]) -> Result<Name, N
 {
     match attribute(attributes, b"ID") {
         Some(id) => id.copy(alloc),
-        None => Ok(Name::of(Vec::new(alloc))),
+        None => Ok(Name::empty()),
     }
 }
 
