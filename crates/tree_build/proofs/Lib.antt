@@ -15,6 +15,7 @@ pub mod ScriptAnswers
 pub mod ScriptFits
 pub mod ShortTexts
 pub mod Sizes
+pub mod TableOfNames
 pub mod Tables
 pub mod Walk
 pub mod WorkLimits

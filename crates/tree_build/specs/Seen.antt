@@ -14,7 +14,7 @@ use Rattle.spec_tree_file.specs.Reads.{File, Trees}
 abbrev pub rules_seen : Kept → Rules
 rules_seen kept.AnyPort = AnyPort
 rules_seen kept.AnyKey = AnyKey
-rules_seen (kept.Modelled ports) = Modelled ports.now
+rules_seen (kept.Modelled model) = Modelled model.now.ports
 rules_seen (kept.BuiltIn rules) = BuiltIn (map rule_seen rules.now)
 
 -- a text that is lent, as a text

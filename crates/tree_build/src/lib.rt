@@ -1,6 +1,7 @@
 //! From the element of a tree file to the tree.
 #![tactic(auto)]
 
+mod attributes;
 mod building;
 mod content;
 mod head;

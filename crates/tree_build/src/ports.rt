@@ -6,6 +6,7 @@ ghost use Rattle.spec_tree_file.specs.Content as content;
 ghost use Rattle.tree_build.specs.Gives.{GivesList};
 ghost use Rattle.tree_build.specs.Seen.{rules_seen};
 
+use crate::attributes::Attributes;
 use crate::rules::{Rules, is_port, name_fits, range_of};
 use crate::values::value;
 use base_tables::PortRule;
@@ -49,12 +50,12 @@ fn with_attribute(
 ) -> Result<Vec<Port>, Stop<BuildFault>>
     ensures { GivesList result (with_attribute uid with_code (rules_seen rules.entry) ports.items attribute.now) }
 {
-    let (name, text) = attribute;
-    let name = name.list();
+    let (key, text) = attribute;
+    let name = key.list();
     if !is_port(with_code, name) {
         return Ok(ports);
     }
-    match range_of(rules, name) {
+    match range_of(rules, key) {
         Some(range) if name_fits(rules, name) => {
             with_port(alloc, uid, ports, range, name, text.list())
         }
@@ -120,14 +121,14 @@ fn with_rules(
 fn with_modelled(
     alloc: Global,
     uid: u32,
-    attributes: &[(Name, Name)],
+    attributes: &Attributes<'_>,
     ports: Vec<Port>,
     port: &ModelPort,
 ) -> Result<Vec<Port>, Stop<BuildFault>>
     ensures { GivesList result (with_modelled uid attributes.now ports.items port.now) }
 {
     let name = port.name.list();
-    if attribute(attributes, name).is_some() {
+    if attributes.has(name) {
         return Ok(ports);
     }
     match &port.fallback {
@@ -140,7 +141,7 @@ fn with_modelled(
 fn with_model(
     alloc: Global,
     uid: u32,
-    attributes: &[(Name, Name)],
+    attributes: &Attributes<'_>,
     mut ports: Vec<Port>,
     model: &[ModelPort],
 ) -> Result<Vec<Port>, Stop<BuildFault>>
@@ -166,7 +167,10 @@ pub fn ports_in(
     let ports = written(alloc, uid, with_code, rules, attributes)?;
     match rules {
         Rules::AnyPort | Rules::AnyKey => Ok(ports),
-        Rules::Modelled(model) => with_model(alloc, uid, attributes, ports, model),
+        Rules::Modelled(model) => {
+            let attributes = Attributes::of(alloc, attributes)?;
+            with_model(alloc, uid, &attributes, ports, model.ports())
+        }
         Rules::BuiltIn(rules) => with_rules(alloc, uid, attributes, ports, rules),
     }
 }

@@ -2,15 +2,14 @@ ghost use Rattle.std.specs.Prelude.{◌≡◌, map};
 ghost use Rattle.std.specs.List.{list_all};
 ghost use Rattle.base_tables.specs.BuiltInRows.{rule_seen};
 ghost use Rattle.spec_tree_file.specs.Content.{all_known, is_port, name_fits, range_among, range_of, rules_of};
-ghost use Rattle.tree_build.specs.ContentSteps.{is_modelled};
 ghost use Rattle.tree_build.specs.Seen.{rules_seen};
 
 use base_tables::{PortRule, ports_of};
 use base_texts::Name;
 use script_reader::is_identifier;
 use spec_tree::{Kind, Range};
-use spec_tree_file::{Head, ModelPort};
-use tree_manifest::{Manifest, is_port_name, model};
+use spec_tree_file::Head;
+use tree_manifest::{KnownModel, Manifest, is_port_name, model};
 
 /// Which ports a node may have.
 #[derive(Clone, Copy)]
@@ -20,7 +19,7 @@ pub enum Rules<'a> {
     /// Any key, as a SubTree node has.
     AnyKey,
     /// The ports of a leaf's model.
-    Modelled(&'a [ModelPort]),
+    Modelled(&'a KnownModel),
     /// The ports of a built-in node.
     BuiltIn(&'static [PortRule]),
 }
@@ -32,7 +31,7 @@ pub fn rules_of<'a>(models: &'a Manifest, head: &Head) -> Rules<'a>
     match head.kind {
         Kind::SubTree => Rules::AnyKey,
         Kind::Leaf => match model(models, &head.id) {
-            Some(model) => Rules::Modelled(model.ports.list()),
+            Some(model) => Rules::Modelled(model),
             None => Rules::AnyPort,
         },
         kind => Rules::BuiltIn(ports_of(kind)),
@@ -40,22 +39,15 @@ pub fn rules_of<'a>(models: &'a Manifest, head: &Head) -> Rules<'a>
 }
 
 /// The range of the port of this name. None where the node may not have it.
-pub fn range_of(rules: Rules<'_>, name: &[u8]) -> Option<Range>
+pub fn range_of(rules: Rules<'_>, name: &Name) -> Option<Range>
     ensures { result ≡ range_of (rules_seen rules.entry) name.now }
 {
     match rules {
         Rules::AnyPort | Rules::AnyKey => Some(Range::AnyValue),
-        Rules::Modelled(ports) if is_modelled(ports, name) => Some(Range::AnyValue),
+        Rules::Modelled(model) if model.has_port(name) => Some(Range::AnyValue),
         Rules::Modelled(_) => None,
-        Rules::BuiltIn(rules) => range_among(rules, name),
+        Rules::BuiltIn(rules) => range_among(rules, name.list()),
     }
-}
-
-/// Whether the model has a port of this name.
-fn is_modelled(ports: &[ModelPort], name: &[u8]) -> bool
-    ensures { result ≡ is_modelled ports.now name.now }
-{
-    ports.iter().any(|port| name == port.name.list())
 }
 
 /// The range of the port of this name among those of a built-in node.
@@ -92,7 +84,7 @@ pub fn all_known(with_code: bool, rules: Rules<'_>, attributes: &[(Name, Name)])
     ensures { result ≡ all_known with_code (rules_seen rules.entry) attributes.now }
 {
     for (name, _) in attributes {
-        if is_port(with_code, name.list()) && range_of(rules, name.list()).is_none() {
+        if is_port(with_code, name.list()) && range_of(rules, name).is_none() {
             return false;
         }
     }

@@ -3,6 +3,7 @@ ghost use Rattle.base_texts.specs.Stops.{Gives};
 ghost use Rattle.spec_tree_file.specs.Models.{has_model, manifest_in, model_of, no_second, with_model, with_model_of, with_models, with_ports};
 
 use crate::attributes::attribute;
+use crate::known::KnownModel;
 use crate::models::Manifest;
 use crate::names::{holds_models, is_model};
 use crate::ports::{Ports, ports_of};
@@ -39,7 +40,7 @@ impl Manifest {
             id: id.copy(alloc)?,
             ports: Items::of(ports.into_ports()),
         };
-        let models = with_new(models, id.copy(alloc)?, model)?;
+        let models = with_new(models, id.copy(alloc)?, KnownModel::of(alloc, model)?)?;
         Ok(Manifest { models })
     }
 
@@ -83,10 +84,10 @@ impl Manifest {
 
 /// The table with one more model, at its end.
 fn with_new(
-    mut models: IndexMap<Name, NodeModel>,
+    mut models: IndexMap<Name, KnownModel>,
     id: Name,
-    model: NodeModel,
-) -> Result<IndexMap<Name, NodeModel>, NoMemory>
+    model: KnownModel,
+) -> Result<IndexMap<Name, KnownModel>, NoMemory>
     requires { model_of id models.entries ≡ None }
     ensures { IfOk result (λ m. m.entries ≡ models.entries ++ (id, model) ∷ []) }
 {

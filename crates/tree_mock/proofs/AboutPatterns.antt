@@ -1,3 +1,3 @@
 pub mod Ends
+pub mod Pieces
 pub mod Stars
-pub mod Steps

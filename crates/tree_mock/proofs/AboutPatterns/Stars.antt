@@ -2,7 +2,7 @@
 use Rattle.std.proofs.Common.{◌≡◌, ℕ, List, [], ◌∷◌, ◌++◌, Bool, true, false, ◌&&◌, nat_eq, refl, ap, sym, ◌∙◌, subst, arith}
 use Rattle.std.specs.Prelude.{if◌then◌else◌}
 use Rattle.std.proofs.lemmas.Bool.Decides.{nat_tests}
-use Rattle.tree_mock.specs.Patterns.Patterns.{Matches, filled, first, others}
+use Rattle.tree_mock.specs.Patterns.{Matches, filled, first, others}
 use Rattle.spec_tree_file.specs.Patterns.{begins, is_star, matches, some_end}
 use Rattle.tree_mock.proofs.AboutPatterns.Ends.{some_end-after, some_end-found}
 
@@ -46,7 +46,7 @@ sound [] [] h = ([], refl)
 sound [] (byte ∷ text) h = absurd (cc)
 sound (byte ∷ pattern) text h = filled_by byte pattern text (is_star byte) refl (λ rest e. sound pattern rest e) h
 
-itself : (byte : ℕ) (test : List ℕ → Bool) (text : List ℕ) → test text ≡ true → begins byte test (byte ∷ text) ≡ true
+pub itself : (byte : ℕ) (test : List ℕ → Bool) (text : List ℕ) → test text ≡ true → begins byte test (byte ∷ text) ≡ true
 itself byte test text h =
     let e : nat_eq byte byte ≡ true = grind (arith, nat_tests) in
     ap (λ (b : Bool). b && test text) e ∙ h

@@ -1,0 +1,63 @@
+ghost use Rattle.std.specs.Prelude.{◌≡◌, IfOk};
+ghost use Rattle.std.specs.List.{list_any};
+ghost use Rattle.std.specs.Str.{bytes_eq};
+ghost use Rattle.tree_manifest.specs.Known.{AreNames};
+
+use base_texts::{Name, NoMemory};
+use indexmap::IndexSet;
+use spec_tree_file::{ModelPort, NodeModel};
+use std::alloc::Global;
+use std::marker::Model;
+
+/// A model whose ports are found by their names, however many it has. Contracts see the model.
+#[derive(Drop)]
+pub struct KnownModel {
+    model: NodeModel,
+    names: IndexSet<Name>,
+}
+
+impl Model for KnownModel {
+    ghost use Rattle.spec_tree_file.specs.declared.models.NodeModel.{NodeModel};
+    ghost use Rattle.tree_manifest.specs.Known.{AreNames};
+
+    ghost Value = { NodeModel };
+
+    ghost view = { λ known. known.model };
+
+    ghost invariant = { λ known. AreNames known.names.keys known.model.ports };
+}
+
+impl KnownModel {
+    /// The model with the table of its ports. `NoMemory` where an allocation fails.
+    pub(crate) fn of(alloc: Global, model: NodeModel) -> Result<KnownModel, NoMemory>
+        ensures { IfOk result (λ known. known ≡ model) }
+    {
+        let names = names_of(alloc, model.ports.list())?;
+        Ok(KnownModel { model, names })
+    }
+
+    /// Lends the ports, in the order of the file.
+    pub fn ports(&self) -> &[ModelPort]
+        ensures { result.now ≡ self.now.ports }
+    {
+        self.model.ports.list()
+    }
+
+    /// Whether the model has a port of this name. It allocates nothing.
+    pub fn has_port(&self, name: &Name) -> bool
+        ensures { result ≡ list_any (λ port. bytes_eq name.now port.name) self.now.ports }
+    {
+        self.names.contains(name)
+    }
+}
+
+/// The names of the ports.
+fn names_of(alloc: Global, ports: &[ModelPort]) -> Result<IndexSet<Name>, NoMemory>
+    ensures { IfOk result (λ names. AreNames names.keys ports.now) }
+{
+    let mut names = IndexSet::with_capacity(alloc, ports.len())?;
+    for port in ports {
+        names.insert(port.name.copy(alloc)?)?;
+    }
+    Ok(names)
+}

@@ -1,0 +1,211 @@
+-- What stands between the stars of a pattern, and where it stands in a text.
+use Rattle.std.proofs.Common.{◌≡◌, ◌+◌, ◌-◌, ◌<◌, ◌≤◌, ℕ, suc, zero, List, [], ◌∷◌, ◌++◌, Bool, true, false, not, cond, ◌&&◌, nat_eq, length, length-append, length-take-le, take, drop, refl, ap, sym, ◌∙◌, subst, append_assoc, arith, lit<}
+use Rattle.std.proofs.Math.Seq.{take-append_seam, drop-append_seam, drop-drop}
+use Rattle.std.proofs.lemmas.Bool.Decides.{nat_tests}
+use Rattle.std.proofs.lemmas.Grind.{common_steps}
+use Rattle.std.proofs.lemmas.List.{take-append-drop}
+use Rattle.std.proofs.lemmas.List.Sums.{prefix_len-le-length}
+use Rattle.std.proofs.lemmas.Slice.Eq.{bytes_eq-Decides}
+use Rattle.std.specs.Prelude.{if◌then◌else◌}
+use Rattle.std.specs.List.{ends_with, list_all, prefix_len}
+use Rattle.std.specs.Str.{bytes_eq}
+use Rattle.memchr.specs.Find.{Nowhere, OccursAt}
+use Rattle.memchr.proofs.lemmas.MatchLemmas.{OccursAt-from_part, OccursAt-split}
+use Rattle.spec_tree_file.specs.Patterns.{begins, is_empty, is_star, matches, some_end}
+use Rattle.tree_mock.specs.Patterns.{is_plain}
+use Rattle.tree_mock.proofs.AboutPatterns.Ends.{End-within, some_end-after, some_end-found}
+use Rattle.tree_mock.proofs.AboutPatterns.Stars.{begun, itself}
+
+pub ruleset prefixes = prefix_len-le-length
+
+-- ---- Up to the first star
+
+-- how many bytes come before the first star
+abbrev pub before_star : List ℕ → ℕ
+before_star bytes = prefix_len (λ byte. not (is_star byte)) bytes
+
+take_one_more : (n : ℕ) (x : ℕ) (xs : List ℕ) → take (1 + n) (x ∷ xs) ≡ x ∷ take n xs
+take_one_more n x xs = grind (arith, common_steps)
+
+drop_one_more : (n : ℕ) (x : ℕ) (xs : List ℕ) → drop (1 + n) (x ∷ xs) ≡ drop n xs
+drop_one_more n x xs = grind (arith, common_steps)
+
+plain_if : (x : ℕ) (xs : List ℕ) (b : Bool) → not (is_star x) ≡ b → is_plain (take (before_star xs) xs) ≡ true → is_plain (take (cond b (1 + before_star xs) 0) (x ∷ xs)) ≡ true
+plain_if x xs true e ih = rw take_one_more (rw (e, ih) refl)
+plain_if x xs false e ih = refl
+
+-- they are plain
+pub plain_before : (xs : List ℕ) → is_plain (take (before_star xs) xs) ≡ true
+plain_before [] = refl
+plain_before (x ∷ xs) = plain_if x xs (not (is_star x)) refl (plain_before xs)
+
+is_star-byte : (byte : ℕ) → not (is_star byte) ≡ false → byte ≡ 42
+is_star-byte byte h = grind (arith, nat_tests)
+
+star_if : (x : ℕ) (xs : List ℕ) (b : Bool) → not (is_star x) ≡ b → (before_star xs < length xs → drop (before_star xs) xs ≡ 42 ∷ drop (1 + before_star xs) xs)
+    → cond b (1 + before_star xs) 0 < length (x ∷ xs) → drop (cond b (1 + before_star xs) 0) (x ∷ xs) ≡ 42 ∷ drop (1 + cond b (1 + before_star xs) 0) (x ∷ xs)
+star_if x xs true e ih less = rw (drop_one_more, drop_one_more) (ih (omega (arith, less)))
+star_if x xs false e ih less = rw drop_one_more (ap (λ (c : ℕ). c ∷ xs) (is_star-byte x e))
+
+-- and the star comes after them
+pub star_after : (xs : List ℕ) → before_star xs < length xs → drop (before_star xs) xs ≡ 42 ∷ drop (1 + before_star xs) xs
+star_after [] less = absurd (omega (arith, less))
+star_after (x ∷ xs) less = star_if x xs (not (is_star x)) refl (star_after xs) less
+
+-- ---- Plain bytes stand for themselves
+
+first_half : (a b : Bool) → (a && b) ≡ true → a ≡ true
+first_half true b h = refl
+first_half false b h = absurd (cc)
+
+second_half : (a b : Bool) → (a && b) ≡ true → b ≡ true
+second_half true b h = h
+second_half false b h = absurd (cc)
+
+not_true : (b : Bool) → not b ≡ true → b ≡ false
+not_true true h = absurd (cc)
+not_true false h = refl
+
+-- a text that matches begins with the bytes before the first star
+passed_first : (passed pattern text : List ℕ) → is_plain passed ≡ true → matches (passed ++ pattern) text ≡ true → (rest : List ℕ) × (text ≡ passed ++ rest) × (matches pattern rest ≡ true)
+passed_first [] pattern text p h = (text, refl, h)
+passed_first (byte ∷ passed) pattern text p h =
+    let star : is_star byte ≡ false = not_true (is_star byte) (first_half (not (is_star byte)) (is_plain passed) p) in
+    let m = matches (passed ++ pattern) in
+    let here = begun byte m text (sym (ap (λ (b : Bool). if b then some_end m text else begins byte m text) star) ∙ h) in
+    let below = passed_first passed pattern here.0 (second_half (not (is_star byte)) (is_plain passed) p) here.2 in
+    (below.0, here.1 ∙ ap (λ (t : List ℕ). byte ∷ t) below.1, below.2)
+
+-- and one that begins so matches where the rest does
+passed_on : (passed pattern rest : List ℕ) → is_plain passed ≡ true → matches pattern rest ≡ true → matches (passed ++ pattern) (passed ++ rest) ≡ true
+passed_on [] pattern rest p h = h
+passed_on (byte ∷ passed) pattern rest p h =
+    let star : is_star byte ≡ false = not_true (is_star byte) (first_half (not (is_star byte)) (is_plain passed) p) in
+    let m = matches (passed ++ pattern) in
+    let text = byte ∷ (passed ++ rest) in
+    ap (λ (b : Bool). if b then some_end m text else begins byte m text) star
+    ∙ itself byte m (passed ++ rest) (passed_on passed pattern rest (second_half (not (is_star byte)) (is_plain passed) p) h)
+
+same_bool : (a b : Bool) → (a ≡ true → b ≡ true) → (b ≡ true → a ≡ true) → a ≡ b
+same_bool true b there back = sym (there refl)
+same_bool false true there back = back refl
+same_bool false false there back = refl
+
+false_from : (a : Bool) → (a ≡ true → ⊥) → a ≡ false
+false_from true h = absurd (h refl)
+false_from false h = refl
+
+cancel : (front x y : List ℕ) → front ++ x ≡ front ++ y → x ≡ y
+cancel [] x y h = h
+cancel (c ∷ front) x y h = cancel front x y (cc)
+
+-- the first piece is the front of the text
+pub front_same : (piece pattern text : List ℕ) → is_plain piece ≡ true → bytes_eq (take (length piece) text) piece ≡ true
+    → matches (piece ++ pattern) text ≡ matches pattern (drop (length piece) text)
+front_same piece pattern text p h =
+    let rest = drop (length piece) text in
+    let parts : piece ++ rest ≡ text = ap (λ (t : List ℕ). t ++ rest) (sym ((bytes_eq-Decides (take (length piece) text) piece).0 h)) ∙ take-append-drop (length piece) text in
+    same_bool (matches (piece ++ pattern) text) (matches pattern rest)
+    (λ m. let found = passed_first piece pattern text p m in
+    ap (matches pattern) (cancel piece rest found.0 (parts ∙ found.1)) ∙ found.2)
+    (λ m. subst (λ (t : List ℕ). matches (piece ++ pattern) t ≡ true) parts (passed_on piece pattern rest p m))
+
+pub front_none : (piece pattern text : List ℕ) → is_plain piece ≡ true → bytes_eq (take (length piece) text) piece ≡ false → matches (piece ++ pattern) text ≡ false
+front_none piece pattern text p h =
+    false_from (matches (piece ++ pattern) text)
+    (λ m. let found = passed_first piece pattern text p m in
+    let front : take (length piece) text ≡ piece = ap (take (length piece)) found.1 ∙ take-append_seam piece found.0 in
+    let both : true ≡ false = sym ((bytes_eq-Decides (take (length piece) text) piece).1 front) ∙ h in
+    cc)
+
+-- ---- A piece after a star
+
+append_nothing : (xs : List ℕ) → xs ++ [] ≡ xs
+append_nothing [] = refl
+append_nothing (x ∷ xs) = ap (λ (t : List ℕ). x ∷ t) (append_nothing xs)
+
+nothing_left : (text : List ℕ) → is_empty text ≡ true → text ≡ []
+nothing_left [] h = refl
+nothing_left (byte ∷ text) h = absurd (cc)
+
+ends_so : (piece before : List ℕ) → drop (length (before ++ piece) - length piece) (before ++ piece) ≡ piece
+ends_so piece before =
+    let start : length (before ++ piece) - length piece ≡ length before = omega (arith, length-append before piece) in
+    ap (λ (n : ℕ). drop n (before ++ piece)) start ∙ drop-append_seam before piece
+
+-- the last piece is the end of the text
+pub last_same : (piece text : List ℕ) → is_plain piece ≡ true → some_end (matches piece) text ≡ ends_with nat_eq text piece
+last_same piece text p =
+    let start = length text - length piece in
+    same_bool (some_end (matches piece) text) (ends_with nat_eq text piece)
+    (λ h. let found = some_end-found (matches piece) text h in
+    let here = passed_first piece [] found.0 p (ap (λ (q : List ℕ). matches q found.0) (append_nothing piece) ∙ found.2) in
+    let whole : found.0 ≡ piece = here.1 ∙ ap (λ (t : List ℕ). piece ++ t) (nothing_left here.0 here.2) ∙ append_nothing piece in
+    let text_is : text ≡ found.1.0 ++ piece = found.1.1 ∙ ap (λ (t : List ℕ). found.1.0 ++ t) whole in
+    let last : drop start text ≡ piece = ap (λ (t : List ℕ). drop (length t - length piece) t) text_is ∙ ends_so piece found.1.0 in
+    (bytes_eq-Decides piece (drop start text)).1 (sym last))
+    (λ h. let same : piece ≡ drop start text = (bytes_eq-Decides piece (drop start text)).0 h in
+    let itself_matches : matches piece piece ≡ true =
+    ap (λ (q : List ℕ). matches q q) (sym (append_nothing piece)) ∙ passed_on piece [] [] p refl in
+    subst (λ (t : List ℕ). some_end (matches piece) t ≡ true)
+    (ap (λ (t : List ℕ). take start text ++ t) same ∙ take-append-drop start text)
+    (some_end-after (matches piece) (take start text) piece itself_matches))
+
+-- a piece and a star after it stand somewhere in a text that matches
+record Stands (piece pattern text : List ℕ) : Type 0 where
+  before : List ℕ
+  rest : List ℕ
+  is : text ≡ before ++ (piece ++ rest)
+  goes_on : some_end (matches pattern) rest ≡ true
+
+stands : (piece pattern text : List ℕ) → is_plain piece ≡ true → some_end (matches (piece ++ 42 ∷ pattern)) text ≡ true → Stands piece pattern text
+stands piece pattern text p h =
+    let found = some_end-found (matches (piece ++ 42 ∷ pattern)) text h in
+    let here = passed_first piece (42 ∷ pattern) found.0 p found.2 in
+    record { before = found.1.0; rest = here.0; is = found.1.1 ∙ ap (λ (t : List ℕ). found.1.0 ++ t) here.1; goes_on = here.2 }
+
+occurs : (piece before rest text : List ℕ) → text ≡ before ++ (piece ++ rest) → OccursAt text piece (length before)
+occurs piece before rest text is =
+    OccursAt-from_part text piece (length before)
+    (omega (arith, ap (λ (t : List ℕ). length t) is, length-append before (piece ++ rest), length-append piece rest))
+    (ap (λ (t : List ℕ). take (length piece) (drop (length before) t)) is
+    ∙ ap (take (length piece)) (drop-append_seam before (piece ++ rest)) ∙ take-append_seam piece rest)
+
+-- where the piece occurs nowhere, nothing matches
+pub none_same : (piece pattern text : List ℕ) → is_plain piece ≡ true → Nowhere (OccursAt text piece) 0 (length text + 1) → some_end (matches (piece ++ 42 ∷ pattern)) text ≡ false
+none_same piece pattern text p nowhere =
+    false_from (some_end (matches (piece ++ 42 ∷ pattern)) text)
+    (λ h. let s = stands piece pattern text p h in
+    nowhere (length s.before) (omega arith) (omega (arith, ap (λ (t : List ℕ). length t) s.is, length-append s.before (piece ++ s.rest)))
+    (occurs piece s.before s.rest text s.is))
+
+at_least : (a b : ℕ) → (b < a → ⊥) → a ≤ b
+at_least zero b h = omega arith
+at_least (suc a) zero h = absurd (h (omega arith))
+at_least (suc a) (suc b) h = let below : a ≤ b = at_least a b (λ less. h (omega (arith, less))) in omega (arith, below)
+
+longer : (test : List ℕ → Bool) (before rest : List ℕ) → some_end test rest ≡ true → some_end test (before ++ rest) ≡ true
+longer test before rest h =
+    let found = some_end-found test rest h in
+    subst (λ (t : List ℕ). some_end test t ≡ true)
+    (append_assoc before found.1.0 found.0 ∙ ap (λ (t : List ℕ). before ++ t) (sym found.1.1))
+    (some_end-after test (before ++ found.1.0) found.0 found.2)
+
+-- where it first occurs, what follows decides: the star after it stands for what a later place would leave
+pub found_same : (piece pattern text : List ℕ) (place : ℕ) → is_plain piece ≡ true → OccursAt text piece place → Nowhere (OccursAt text piece) 0 place
+    → some_end (matches (piece ++ 42 ∷ pattern)) text ≡ some_end (matches pattern) (drop (place + length piece) text)
+found_same piece pattern text place p here nowhere =
+    let rest = drop (place + length piece) text in
+    let front = take place text in
+    let parts : front ++ (piece ++ rest) ≡ text =
+    ap (λ (t : List ℕ). front ++ t) (sym (OccursAt-split text piece place here)) ∙ take-append-drop place text in
+    same_bool (some_end (matches (piece ++ 42 ∷ pattern)) text) (some_end (matches pattern) rest)
+    (λ h. let s = stands piece pattern text p h in
+    let late : place ≤ length s.before = at_least place (length s.before) (λ less. nowhere (length s.before) (omega arith) less (occurs piece s.before s.rest text s.is)) in
+    let short : length front ≤ place = omega (arith, length-take-le place text (omega (arith, here.fits))) in
+    let end = End-within (s.before ++ piece) (front ++ piece) s.rest rest
+    (append_assoc s.before piece s.rest ∙ sym s.is ∙ sym parts ∙ sym (append_assoc front piece rest))
+    (omega (arith, late, short, length-append s.before piece, length-append front piece)) in
+    subst (λ (t : List ℕ). some_end (matches pattern) t ≡ true) (sym end.1) (longer (matches pattern) end.0 s.rest s.goes_on))
+    (λ h. subst (λ (t : List ℕ). some_end (matches (piece ++ 42 ∷ pattern)) t ≡ true) parts
+    (some_end-after (matches (piece ++ 42 ∷ pattern)) front (piece ++ rest) (passed_on piece (42 ∷ pattern) rest p h)))
