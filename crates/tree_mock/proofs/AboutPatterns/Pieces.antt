@@ -1,5 +1,5 @@
 -- What stands between the stars of a pattern, and where it stands in a text.
-use Rattle.std.proofs.Common.{◌≡◌, ◌+◌, ◌-◌, ◌<◌, ◌≤◌, ℕ, suc, zero, List, [], ◌∷◌, ◌++◌, Bool, true, false, not, cond, ◌&&◌, nat_eq, length, length-append, length-take-le, take, drop, refl, ap, sym, ◌∙◌, subst, append_assoc, arith, lit<}
+use Rattle.std.proofs.Common.{◌≡◌, ◌+◌, ◌-◌, ◌<◌, ◌≤◌, ℕ, suc, zero, List, [], ◌∷◌, ◌++◌, Bool, true, false, not, cond, ◌&&◌, ◌==◌, nat_eq, length, length-append, length-drop, length-take-le, take, drop, refl, ap, sym, ◌∙◌, subst, append_assoc, arith, lit<}
 use Rattle.std.proofs.Math.Seq.{take-append_seam, drop-append_seam, drop-drop}
 use Rattle.std.proofs.lemmas.Bool.Decides.{nat_tests}
 use Rattle.std.proofs.lemmas.Grind.{common_steps}
@@ -209,3 +209,98 @@ found_same piece pattern text place p here nowhere =
     subst (λ (t : List ℕ). some_end (matches pattern) t ≡ true) (sym end.1) (longer (matches pattern) end.0 s.rest s.goes_on))
     (λ h. subst (λ (t : List ℕ). some_end (matches (piece ++ 42 ∷ pattern)) t ≡ true) parts
     (some_end-after (matches (piece ++ 42 ∷ pattern)) front (piece ++ rest) (passed_on piece (42 ∷ pattern) rest p h)))
+
+-- ---- What is left of a pattern, cut at its first star
+
+-- what comes before the star, and what comes after it
+record Cut (left piece more : List ℕ) (count : ℕ) : Type 0 where
+  counted : count ≡ before_star left
+  piece_is : piece ≡ take count left
+  more_is : more ≡ drop count left
+
+plain_piece : (left piece more : List ℕ) (count : ℕ) → Cut left piece more count → is_plain piece ≡ true
+plain_piece left piece more count cut =
+    ap is_plain (cut.piece_is ∙ ap (λ (n : ℕ). take n left) cut.counted) ∙ plain_before left
+
+whole : (left piece more : List ℕ) (count : ℕ) → Cut left piece more count → piece ++ more ≡ left
+whole left piece more count cut =
+    ap (λ (t : List ℕ). t ++ more) cut.piece_is ∙ ap (λ (t : List ℕ). take count left ++ t) cut.more_is ∙ take-append-drop count left
+
+same_tail : (a b : ℕ) (x y : List ℕ) → a ∷ x ≡ b ∷ y → x ≡ y
+same_tail a b x y h = cc
+
+-- the star comes between them
+starred : (left piece more next : List ℕ) (star count : ℕ) → Cut left piece more count → more ≡ star ∷ next → piece ++ 42 ∷ next ≡ left
+starred left piece more next star count cut is =
+    let here : drop count left ≡ star ∷ next = sym cut.more_is ∙ is in
+    let inside : before_star left < length left =
+    omega (arith, cut.counted, length-drop count left, ap (λ (t : List ℕ). length t) here) in
+    let at : drop count left ≡ 42 ∷ drop (1 + before_star left) left = ap (λ (n : ℕ). drop n left) cut.counted ∙ star_after left inside in
+    let next_is : next ≡ drop (1 + before_star left) left = same_tail star 42 next (drop (1 + before_star left) left) (sym here ∙ at) in
+    ap (λ (t : List ℕ). piece ++ 42 ∷ t) next_is ∙ ap (λ (t : List ℕ). piece ++ t) (sym at ∙ sym cut.more_is) ∙ whole left piece more count cut
+
+no_bytes : (xs : List ℕ) → length xs ≡ 0 → xs ≡ []
+no_bytes [] h = refl
+no_bytes (x ∷ xs) h = absurd (omega (arith, h))
+
+pub last_left : (left rest piece more : List ℕ) (count : ℕ) → count ≡ before_star left → piece ≡ take count left → more ≡ drop count left → length more ≡ 0
+    → ends_with nat_eq rest piece ≡ some_end (matches left) rest
+last_left left rest piece more count counted piece_is more_is end =
+    let cut : Cut left piece more count = record { counted = counted; piece_is = piece_is; more_is = more_is } in
+    let is : piece ≡ left = sym (append_nothing piece) ∙ ap (λ (t : List ℕ). piece ++ t) (sym (no_bytes more end)) ∙ whole left piece more count cut in
+    sym (last_same piece rest (plain_piece left piece more count cut)) ∙ ap (λ (p : List ℕ). some_end (matches p) rest) is
+
+pub none_left : (left rest piece more next : List ℕ) (star count : ℕ) → count ≡ before_star left → piece ≡ take count left → more ≡ drop count left → more ≡ star ∷ next
+    → Nowhere (OccursAt rest piece) 0 (length rest + 1) → false ≡ some_end (matches left) rest
+none_left left rest piece more next star count counted piece_is more_is is nowhere =
+    let cut : Cut left piece more count = record { counted = counted; piece_is = piece_is; more_is = more_is } in
+    sym (none_same piece next rest (plain_piece left piece more count cut) nowhere)
+    ∙ ap (λ (p : List ℕ). some_end (matches p) rest) (starred left piece more next star count cut is)
+
+pub found_left : (left rest piece more next found following : List ℕ) (star count place : ℕ) → count ≡ before_star left → piece ≡ take count left → more ≡ drop count left
+    → more ≡ star ∷ next → Nowhere (OccursAt rest piece) 0 place → OccursAt rest piece place → found ≡ drop place rest → following ≡ drop (length piece) found
+    → some_end (matches next) following ≡ some_end (matches left) rest
+found_left left rest piece more next found following star count place counted piece_is more_is is before here found_is following_is =
+    let cut : Cut left piece more count = record { counted = counted; piece_is = piece_is; more_is = more_is } in
+    let passed : following ≡ drop (place + length piece) rest =
+    following_is ∙ ap (drop (length piece)) found_is ∙ drop-drop (length piece) place rest in
+    ap (λ (t : List ℕ). some_end (matches next) t) passed
+    ∙ sym (found_same piece next rest place (plain_piece left piece more count cut) here before)
+    ∙ ap (λ (p : List ℕ). some_end (matches p) rest) (starred left piece more next star count cut is)
+
+-- the piece before the first star is the front of the text, or nothing matches
+pub front_left : (left text piece more : List ℕ) (count : ℕ) → count ≡ before_star left → piece ≡ take count left → more ≡ drop count left
+    → bytes_eq (take (length piece) text) piece ≡ false → false ≡ matches left text
+front_left left text piece more count counted piece_is more_is differs =
+    let cut : Cut left piece more count = record { counted = counted; piece_is = piece_is; more_is = more_is } in
+    sym (front_none piece more text (plain_piece left piece more count cut) differs)
+    ∙ ap (λ (p : List ℕ). matches p text) (whole left piece more count cut)
+
+-- where it is, the rest decides
+pub passed_left : (left text piece more rest : List ℕ) (count : ℕ) → count ≡ before_star left → piece ≡ take count left → more ≡ drop count left
+    → bytes_eq (take (length piece) text) piece ≡ true → rest ≡ drop (length piece) text → matches more rest ≡ matches left text
+passed_left left text piece more rest count counted piece_is more_is same rest_is =
+    let cut : Cut left piece more count = record { counted = counted; piece_is = piece_is; more_is = more_is } in
+    ap (matches more) rest_is
+    ∙ sym (front_same piece more text (plain_piece left piece more count cut) same)
+    ∙ ap (λ (p : List ℕ). matches p text) (whole left piece more count cut)
+
+pub star_left : (left text piece more next rest : List ℕ) (star count : ℕ) → count ≡ before_star left → piece ≡ take count left → more ≡ drop count left → more ≡ star ∷ next
+    → bytes_eq (take (length piece) text) piece ≡ true → rest ≡ drop (length piece) text → some_end (matches next) rest ≡ matches left text
+star_left left text piece more next rest star count counted piece_is more_is is same rest_is =
+    let cut : Cut left piece more count = record { counted = counted; piece_is = piece_is; more_is = more_is } in
+    ap (matches (42 ∷ next)) rest_is
+    ∙ sym (front_same piece (42 ∷ next) text (plain_piece left piece more count cut) same)
+    ∙ ap (λ (p : List ℕ). matches p text) (starred left piece more next star count cut is)
+
+eq_from_test : (a b : ℕ) → (a == b) ≡ true → a ≡ b
+eq_from_test a b h = grind (arith, nat_tests)
+
+empty_same : (xs : List ℕ) → (length xs == 0) ≡ is_empty xs
+empty_same [] = refl
+empty_same (x ∷ xs) =
+    false_from (length (x ∷ xs) == 0)
+    (λ e. let none : length (x ∷ xs) ≡ 0 = eq_from_test (length (x ∷ xs)) 0 e in absurd (omega (arith, none)))
+
+pub nothing_more : (more rest : List ℕ) → length more ≡ 0 → (length rest == 0) ≡ matches more rest
+nothing_more more rest none = empty_same rest ∙ sym (ap (λ (p : List ℕ). matches p rest) (no_bytes more none))

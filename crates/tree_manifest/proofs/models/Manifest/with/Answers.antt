@@ -16,4 +16,4 @@ added es entries more key name id ports known made old first second third =
 pub returns : goal.returns
 returns c =
     added c.args.self c.models.inside.columns.entries c.in_ok-models.models.entries c.in_ok-copy-2.field-0 c.in_ok-copy.field-0 c.args.id.now c.of.result c.args.ports.ports
-    c.in_ok-models.ensures (ap (λ m. m.entries) c.models.view_is ∙ c.self.view_is) c.in_ok-copy-2.ensures c.in_ok-copy.ensures (c.of.ensures ∙ c.into_ports.ensures)
+    (c.in_ok-models.ensures ∙ ap (λ (m : NodeModel). c.models.inside.columns.entries ++ (c.in_ok-copy-2.field-0, m) ∷ []) c.in_ok-of.ensures) (ap (λ m. m.entries) c.models.view_is ∙ c.self.view_is) c.in_ok-copy-2.ensures c.in_ok-copy.ensures (c.of.ensures ∙ c.into_ports.ensures)
