@@ -1,7 +1,7 @@
 ghost use Rattle.std.specs.Prelude.{◌≡◌, map};
 ghost use Rattle.std.specs.List.{list_all};
 ghost use Rattle.base_tables.specs.BuiltInRows.{rule_seen};
-ghost use Rattle.spec_tree_file.specs.Content.{all_known, is_port, name_fits, range_among, range_of, rules_of};
+ghost use Rattle.spec_tree_file.specs.Content.{Modelled, all_known, is_port, name_fits, range_among, range_of, rules_of};
 ghost use Rattle.tree_build.specs.Seen.{rules_seen};
 
 use base_tables::{PortRule, ports_of};
@@ -44,9 +44,19 @@ pub fn range_of(rules: Rules<'_>, name: &Name) -> Option<Range>
 {
     match rules {
         Rules::AnyPort | Rules::AnyKey => Some(Range::AnyValue),
-        Rules::Modelled(model) if model.has_port(name) => Some(Range::AnyValue),
-        Rules::Modelled(_) => None,
+        Rules::Modelled(model) => modelled_range(model, name),
         Rules::BuiltIn(rules) => range_among(rules, name.list()),
+    }
+}
+
+/// The range of the port of this name among those of a model.
+fn modelled_range(model: &KnownModel, name: &Name) -> Option<Range>
+    ensures { result ≡ range_of (Modelled model.now.ports) name.now }
+{
+    if model.has_port(name) {
+        Some(Range::AnyValue)
+    } else {
+        None
     }
 }
 

@@ -1,8 +1,7 @@
-use Rattle.std.proofs.Common.{◌≡◌, ℕ, List, Bool, Bor, true, cond, length, take, refl, ap, sym, subst, ◌∙◌, arith}
+use Rattle.std.proofs.Common.{◌≡◌, ℕ, List, Bor, true, cond, length, take, ap, sym, subst, ◌∙◌, arith}
 use Rattle.std.proofs.Math.Seq.{take-length}
 use Rattle.std.specs.List.{list_any}
 use Rattle.std.specs.Str.{bytes_eq}
-use Rattle.spec_tree_file.specs.Attributes.{Attributes}
 use Rattle.tree_build.specs.Named.{HaveNames}
 use Rattle.tree_build.proofs.TableOfNames.{name_more}
 use Rattle.tree_build.proofs.attributes.names_of.Goals as goal

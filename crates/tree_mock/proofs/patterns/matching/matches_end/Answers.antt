@@ -1,4 +1,4 @@
-use Rattle.std.proofs.Common.{◌∙◌, sym, arith}
+use Rattle.std.proofs.Common.{◌∙◌}
 use Rattle.tree_mock.proofs.AboutPatterns.Pieces.{found_left, last_left, none_left}
 use Rattle.tree_mock.proofs.patterns.matching.matches_end.Goals as goal
 
