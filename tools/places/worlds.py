@@ -30,6 +30,7 @@ FORMS = {
     "goal": ["goal ID"],
     "runners": ["runners N"],
     "at": ["at MS"],
+    "every": ["every MS until MS tick R ..", "every MS until MS halt R .."],
     "tick": ["tick R"],
     "halt": ["halt R"],
     "set": ["set NAME INT"],
@@ -674,12 +675,45 @@ class World:
         word = line.canonical("moment")
         line.stop()
         self.close()
+        self.moment, self.moment_word = self.not_back(line, word), word
+
+    def not_back(self, line: Line, word: Word) -> int:
+        """The moment of a word. Raises where it lies before the last one."""
         moment = line.in_range(word, 0, LAST_MOMENT, "moments")
         if moment < self.moment:
             notes = [("the last moment", self.moment_word.span())] if self.moment_word else []
             raise line.fault("MomentBack", word.span(), f"{moment} lies before the last moment, {self.moment}",
                              ["moments do not go back"], notes)
-        self.moment, self.moment_word = moment, word
+        return moment
+
+    def read_every(self, line: Line) -> None:
+        """`every MS until MS` and one part or more, each `tick R` or `halt R`"""
+        step = line.canonical("number of milliseconds")
+        line.sign("until")
+        last = line.canonical("moment of the end")
+        runners = [self.runner_of_part(line)]
+        while line.taken < len(line.words):
+            runners.append(self.runner_of_part(line))
+        self.close()
+        time = line.in_range(step, 1, LAST_MOMENT, "milliseconds from one round to the next")
+        line.in_range(last, 0, LAST_MOMENT, "moments")
+        for runner in runners:
+            line.in_range(runner, 1, self.count, "runners, of which a line `runners N` says the number")
+        steps = (self.not_back(line, last) - self.moment) // time
+        self.add_rounds(line, (steps + 1) * len(runners))
+        self.moment, self.moment_word = self.moment + steps * time, last
+
+    def runner_of_part(self, line: Line) -> Word:
+        """The runner of the next part of a line of rounds, `tick R` or `halt R`."""
+        line.sign("tick", "halt")
+        return line.canonical("number of a runner")
+
+    def add_rounds(self, line: Line, count: int) -> None:
+        """Counts the events of a line of rounds."""
+        if self.events + count > MOST["events"]:
+            raise line.fault("TooMany", line.words[0].span(), f"the line makes {count:,} events, and {self.events:,} stand before it",
+                             [f"at most {MOST['events']:,} events"])
+        self.events += count
 
     def event(self, line: Line) -> None:
         """Counts an event."""

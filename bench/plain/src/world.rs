@@ -345,6 +345,7 @@ impl<'w> Reader<'w> {
             b"set" => self.change(words),
             b"tell" => self.tell(words),
             b"at" => self.at(words),
+            b"every" => self.every(words),
             b"fails" | b"needs" | b"sets" | b"out" => return self.detail(word, words),
             b"fact" => self.fact(words),
             b"condition" => self.condition(words),
@@ -417,6 +418,38 @@ impl<'w> Reader<'w> {
         must(moment >= self.moment, Wrong::MomentBack)?;
         self.moment = moment;
         Ok(())
+    }
+
+    fn every(&mut self, mut words: Words<'w>) -> Answer<()> {
+        let step = words.number()?;
+        words.sign(b"until")?;
+        let last = words.number()?;
+        let mut written = Vec::new();
+        while written.is_empty() || !words.rest.is_empty() {
+            let what: fn(u32) -> What = match words.next()? {
+                b"tick" => What::Tick,
+                b"halt" => What::Halt,
+                _ => return Err(Wrong::BadLine),
+            };
+            written.push((what, words.number()?));
+        }
+        let step = within(step, 1, LATEST)?;
+        let last = within(last, 0, LATEST)?;
+        let runners = i64::from(self.world.runners);
+        let mut parts = Vec::new();
+        for (what, runner) in written {
+            parts.push(what(within(runner, 1, runners)? as u32));
+        }
+        must(last >= self.moment, Wrong::MomentBack)?;
+        loop {
+            for &what in &parts {
+                self.happens(what)?;
+            }
+            if last - self.moment < step {
+                return Ok(());
+            }
+            self.moment += step;
+        }
     }
 
     fn fact(&mut self, mut words: Words<'w>) -> Answer<()> {

@@ -1,7 +1,7 @@
 -- World scripts: the lines and words of a file, what a line says, and the world that the lines make.
-use Rattle.std.specs.Prelude.{◌≡◌, ℕ, zero, suc, ◌+◌, ◌-◌, ◌*◌, ◌==◌, IsTrue, Bool, true, false, not, ◌&&◌, ◌||◌, nat_lt, nat_le, nat_eq, if◌then◌else◌, MatchBool, List, [], ◌∷◌, ◌++◌, map, length, take, drop, codes, bytes_eq, ℤ, pos, nat_abs, Option, Some, None, is_some, option_map, option_and_then, option_to_list, unwrap_or, Result, Ok, Err, position, slice_get}
+use Rattle.std.specs.Prelude.{◌≡◌, ℕ, zero, suc, ◌+◌, ◌-◌, ◌*◌, ◌/◌, ◌==◌, IsTrue, Bool, true, false, not, ◌&&◌, ◌||◌, nat_lt, nat_le, nat_eq, if◌then◌else◌, MatchBool, List, [], ◌∷◌, ◌++◌, map, length, take, drop, codes, bytes_eq, ℤ, pos, nat_abs, Option, Some, None, is_some, option_map, option_and_then, option_to_list, unwrap_or, Result, Ok, Err, position, slice_get}
 use Rattle.std.specs.Char.{is_ascii_digit}
-use Rattle.std.specs.List.{slice_split, list_all, list_any, ends_with, starts_with, prefix_len, suffix_len, position_or_len}
+use Rattle.std.specs.List.{slice_split, filter, list_all, list_any, ends_with, starts_with, prefix_len, suffix_len, position_or_len}
 use Rattle.std.specs.Str.{is_utf8}
 use Rattle.std.specs.Str.Parse.{signed_digits_value}
 use Rattle.spec_script.specs.Reading.{ReadsExpr}
@@ -119,6 +119,11 @@ head_in word = head_of (slice_split (λ b. b == 40) word)
 
 -- ---- What a line says
 
+-- what happens to a runner in each round of a line of rounds, with the number as it is written
+pub data Part : Type 0 where
+  TickPart : (runner : ℤ) → Part
+  HaltPart : (runner : ℤ) → Part
+
 -- a line by its form, with its numbers as they are written and the text of its expression
 pub data Line : Type 0 where
   FactLine : (name : List ℕ) (opening : ℤ) → Line
@@ -141,6 +146,7 @@ pub data Line : Type 0 where
   HaltLine : (runner : ℤ) → Line
   SetLine : (fact : List ℕ) (value : ℤ) → Line
   TellLine : (runner uid : ℤ) (succeeds : Bool) (outs : List ℕ) → Line
+  EveryLine : (ms last : ℤ) (parts : List Part) → Line
 
 -- the comparison that a word names
 abbrev pub comparison_in : List ℕ → Option Cmp
@@ -246,6 +252,31 @@ tell_line text =
     if succeeds || ends_after 3 text then Some (TellLine runner uid succeeds (following 3 text)) else None)
     (success_in (word 2 text))) (number_in (word 1 text))) (number_in (word 0 text))
 
+-- the words of a text
+abbrev pub words_in : List ℕ → List (List ℕ)
+words_in text = filter (λ word. nat_lt 0 (length word)) (slice_split is_gap text)
+
+-- `tick R` or `halt R`
+abbrev pub part_in : List ℕ → List ℕ → Option Part
+part_in verb runner =
+    if bytes_eq verb (codes "tick") then option_map TickPart (number_in runner)
+    else if bytes_eq verb (codes "halt") then option_map HaltPart (number_in runner)
+    else None
+
+-- the parts that some words are, two words each
+abbrev pub parts_in : List (List ℕ) → Option (List Part)
+parts_in [] = Some []
+parts_in (verb ∷ []) = None
+parts_in (verb ∷ runner ∷ words) = option_and_then (λ part. option_map (λ parts. part ∷ parts) (parts_in words)) (part_in verb runner)
+
+-- `MS until MS` and one part or more
+abbrev pub every_line : List ℕ → Option Line
+every_line text =
+    if bytes_eq (word 1 text) (codes "until") && not (ends_after 3 text)
+    then option_and_then (λ ms. option_and_then (λ last. option_map (EveryLine ms last) (parts_in (words_in (following 3 text))))
+    (number_in (word 2 text))) (number_in (word 0 text))
+    else None
+
 -- what a line about goals, runners and events says, which begins with this word
 abbrev pub event_line : List ℕ → List ℕ → Option Line
 event_line kind text =
@@ -256,6 +287,7 @@ event_line kind text =
     else if bytes_eq kind (codes "halt") then number_line HaltLine text
     else if bytes_eq kind (codes "set") then named_number SetLine text
     else if bytes_eq kind (codes "tell") then tell_line text
+    else if bytes_eq kind (codes "every") then every_line text
     else None
 
 -- what a line says that begins with this word, by what follows the word
@@ -400,9 +432,18 @@ runners_of r = unwrap_or r.runners 1
 abbrev pub is_ms : ℤ → Bool
 is_ms = in_range (pos 0) (pos last_moment)
 
+-- the time from one round to the next, in milliseconds
+abbrev pub is_step : ℤ → Bool
+is_step = in_range (pos 1) (pos last_moment)
+
 -- the number of one of so many runners
 abbrev pub is_runner : ℕ → ℤ → Bool
 is_runner runners = in_range (pos 1) (pos runners)
+
+-- the runner of a part, as it is written
+abbrev pub runner_in : Part → ℤ
+runner_in (TickPart runner) = runner
+runner_in (HaltPart runner) = runner
 
 -- a number that a node may have, in 32 bits; whether a node has it, the tree says
 abbrev pub is_uid : ℤ → Bool
@@ -558,6 +599,27 @@ with_event what r =
     if nat_le most_events (length r.events) then Err TooMany
     else Ok (record r { events = r.events ++ record { at = r.moment; what = what } ∷ [] })
 
+-- what a part does
+abbrev pub what_in : Part → What
+what_in (TickPart runner) = Tick (nat_abs runner)
+what_in (HaltPart runner) = Halt (nat_abs runner)
+
+-- so many rounds of the same events, the first one at this moment and each of the others so long after the one before
+abbrev pub rounds : ℕ → ℕ → ℕ → List What → List Event
+rounds zero at ms whats = []
+rounds (suc n) at ms whats = map (λ what. record { at = at; what = what }) whats ++ rounds n (at + ms) ms whats
+
+-- after how many steps of this length the last round comes that is not past the end
+abbrev pub steps_to : ℕ → ℕ → Reading → ℕ
+steps_to last ms r = (last - r.moment) / ms
+
+-- rounds from the last moment on, up to and with this end; the last moment is then that of the last round
+abbrev pub with_rounds : ℕ → ℕ → List What → Reading → Result Reading WorldKind
+with_rounds last ms whats r =
+    if nat_lt last r.moment then Err MomentBack
+    else if nat_lt most_events (length r.events + (steps_to last ms r + 1) * length whats) then Err TooMany
+    else Ok (record r { events = r.events ++ rounds (steps_to last ms r + 1) r.moment ms whats; moment = r.moment + steps_to last ms r * ms })
+
 -- what is said, where the number of the line stands in its range
 abbrev pub ranged : Bool → Result Reading WorldKind → Result Reading WorldKind
 ranged true said = said
@@ -635,6 +697,9 @@ AfterLine r (SetLine fact value) said = said ≡ ranged (is_int value) (numbered
 AfterLine r (TellLine runner uid succeeds outs) said = SaysOfOuts outs (λ told.
     ranged (is_runner (runners_of r) runner && is_uid uid && list_all (λ out. is_small out.value) told)
     (with_telling told (with_event (Tell (nat_abs runner) (nat_abs uid) (telling_of succeeds told)) (closed r)))) said
+AfterLine r (EveryLine ms last parts) said =
+    said ≡ ranged (is_step ms && is_ms last && list_all (λ part. is_runner (runners_of r) (runner_in part)) parts)
+    (with_rounds (nat_abs last) (nat_abs ms) (map what_in parts) (closed r))
 
 -- after what may be a line of one of the forms
 abbrev pub AfterForm : Reading → Option Line → Result Reading WorldKind → Type 0

@@ -223,7 +223,7 @@ fn whole_files(rt: HostRuntime) -> Result<(), Fail> {
 }
 
 /// Scripts, with their lines between slashes, and the world of each.
-static ACCEPTED: [(&str, &str); 14] = [
+static ACCEPTED: [(&str, &str); 20] = [
     (
         "fact x -9223372036854775808 / fact y 9223372036854775807",
         "x -9223372036854775808; y 9223372036854775807; [] 1",
@@ -260,6 +260,30 @@ static ACCEPTED: [(&str, &str); 14] = [
     (
         "at 1000000000000 / runners 16 / tick 16",
         "[] 16; 1000000000000 Tick(16)",
+    ),
+    (
+        "every 100 until 200 tick 1",
+        "[] 1; 0 Tick(1); 100 Tick(1); 200 Tick(1)",
+    ),
+    (
+        "runners 2 / at 50 / every  100\tuntil 249 tick 2  halt 1 / tick 1",
+        "[] 2; 50 Tick(2); 50 Halt(1); 150 Tick(2); 150 Halt(1); 150 Tick(1)",
+    ),
+    (
+        "at 7 / every 1000000000000 until 7 halt 1 / at 7 / tick 1",
+        "[] 1; 7 Halt(1); 7 Tick(1)",
+    ),
+    (
+        "tick 1 / every 3 until 4 tick 1 / every 2 until 5 tick 1 / at 5",
+        "[] 1; 0 Tick(1); 0 Tick(1); 3 Tick(1); 3 Tick(1); 5 Tick(1)",
+    ),
+    (
+        "at 999999999999 / every 1 until 1000000000000 tick 1 tick 1",
+        "[] 1; 999999999999 Tick(1); 999999999999 Tick(1); 1000000000000 Tick(1); 1000000000000 Tick(1)",
+    ),
+    (
+        "action A timed 1 / every 9 until 0 halt 1",
+        "A timed 1 false []; [] 1; 0 Halt(1)",
     ),
     ("condition C told", "C told []; [] 1"),
     (
@@ -403,6 +427,38 @@ condition C told / goal C => NoName 3
 condition W when 1 / goal W => NoName 3
 set x 1 => NoName 2
 at 5 / at 4 => MomentBack 3
+at 5 / every 1 until 4 tick 1 => MomentBack 3
+every 2 until 5 tick 1 / at 3 => MomentBack 3
+at 5 / every 1 until 4 tick 2 => Range 3
+every 0 until 4 tick 1 => Range 2
+every -1 until 4 tick 1 => Range 2
+every 1000000000001 until 4 tick 1 => Range 2
+every 99999999999999999999 until 4 tick 1 => Range 2
+every 1 until -1 tick 1 => Range 2
+every 1 until 1000000000001 tick 1 => Range 2
+every 1 until 4 tick 2 => Range 2
+runners 2 / every 1 until 4 tick 2 halt 3 => Range 3
+every 1 until 4 tick 0 => Range 2
+every 1 until 4 => BadLine 2
+every 1 until => BadLine 2
+every 1 => BadLine 2
+every => BadLine 2
+every 0 until 4 tick => BadLine 2
+every 0 until 4 tick 1 tick => BadLine 2
+every 0 until 4 tick 1 1 => BadLine 2
+every 0 until 4 set x 1 => BadLine 2
+every 0 until 4 tell 1 => BadLine 2
+every 0 until 4 ticks 1 => BadLine 2
+every 0 until 4 1 tick => BadLine 2
+every 0 until 4 tick 01 => BadLine 2
+every 0 till 4 tick 1 => BadLine 2
+every 0 until 4 until 5 tick 1 => BadLine 2
+every 01 until 4 tick 1 => BadLine 2
+every 0 until 04 tick 1 => BadLine 2
+every x until 4 tick 1 => BadLine 2
+until 4 every 0 tick 1 => BadLine 2
+every 1 until 4 tick 1 / runners 1 => BadLine 3
+action A timed 1 / every 1 until 4 tick 1 / fails 1 => BadLine 4
 action A(a,b,c,d,e,f,g,h,i) timed 1 => TooMany 2
 condition C(a,b,c,d,e,f,g,h,i) told => TooMany 2
 fact 1x 9223372036854775808 => BadLine 2
@@ -429,7 +485,7 @@ fn first_faulty_lines(rt: HostRuntime) -> Result<(), Fail> {
 }
 
 /// Twice a pattern and its number of lines after a text, and the numbers or the fault.
-static LIMITS: [((&str, &str, usize), (&str, &str, usize), &str); 19] = [
+static LIMITS: [((&str, &str, usize), (&str, &str, usize), &str); 24] = [
     (("", "fact f# 1", 1024), ("", "", 0), "1024 0 0 0"),
     (("", "fact f# 1", 1025), ("", "", 0), "TooMany 1026"),
     (("", "action a# timed 1", 1024), ("", "", 0), "0 1024 0 0"),
@@ -489,6 +545,31 @@ static LIMITS: [((&str, &str, usize), (&str, &str, usize), &str); 19] = [
     ),
     (("", "tick 1", 100_000), ("", "", 0), "0 0 0 100000"),
     (("", "tick 1", 100_001), ("", "", 0), "TooMany 100002"),
+    (
+        ("\nevery 1 until 49999 tick 1 halt 1", "tick 1", 0),
+        ("", "", 0),
+        "0 0 0 100000",
+    ),
+    (
+        ("\nevery 1 until 50000 tick 1 halt 1", "tick 1", 0),
+        ("", "", 0),
+        "TooMany 2",
+    ),
+    (
+        ("\nevery 1 until 1000000000000 tick 1", "tick 1", 0),
+        ("", "", 0),
+        "TooMany 2",
+    ),
+    (
+        ("", "tick 1", 99_990),
+        ("\nevery 2 until 18 tick 1", "tick 1", 0),
+        "0 0 0 100000",
+    ),
+    (
+        ("", "tick 1", 99_991),
+        ("\nevery 2 until 18 tick 1", "tick 1", 0),
+        "TooMany 99993",
+    ),
 ];
 
 /// Each of `LIMITS` has the numbers or the fault that is wanted.

@@ -1,6 +1,7 @@
 pub mod Drafts
 pub mod Lines
 pub mod Readings
+pub mod Rounds
 pub mod Rows
 pub mod Tables
 pub mod Taking

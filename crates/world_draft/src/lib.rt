@@ -8,14 +8,17 @@ mod knowing;
 mod lines;
 mod ports;
 mod reading;
+mod rounds;
 mod rows;
 mod tables;
 mod telling;
 
 pub use draft::Draft;
 pub use lines::{
-    Head, WrittenOut, content, cut, head_in, int, is, is_ignored, is_line, is_name, ms, name_of,
-    names_of, numeric, one_of, outs_in, parts, trimmed, uid, without_rest,
+    Head, WrittenOut, WrittenPart, content, cut, head_in, int, is, is_ignored, is_line, is_name, ms, name_of,
+    names_of, numeric, one_of, outs_in, parts, parts_in, step, trimmed, uid, without_rest,
+    words,
 };
 pub use reading::Reading;
+pub use rounds::{Part, parts_within};
 pub use telling::told_outs;

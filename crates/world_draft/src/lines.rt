@@ -1,5 +1,5 @@
-//! The lines of world scripts, and what stands in a line: words, numbers, names, heads of rows, expressions, and values
-//! that are told.
+//! The lines of world scripts, and what stands in a line: words, numbers, names, heads of rows, expressions, values
+//! that are told, and parts of rounds.
 
 mod exprs;
 mod head;
@@ -7,13 +7,15 @@ mod lines;
 mod names;
 mod numbers;
 mod quoted;
+mod rounds;
 mod told;
 mod values;
 
 pub use exprs::numeric;
 pub use head::{Head, head_in};
-pub use lines::{content, cut, is, is_ignored, is_line, parts, trimmed, without_rest};
+pub use lines::{content, cut, is, is_ignored, is_line, parts, trimmed, without_rest, words};
 pub use names::{is_name, name_of, names_of};
-pub use numbers::{int, ms, one_of, uid};
+pub use numbers::{int, ms, one_of, step, uid};
+pub use rounds::{WrittenPart, parts_in};
 pub use told::outs_in;
-pub use values::{Written, WrittenOut};
+pub use values::{Numeral, Written, WrittenOut};

@@ -1,16 +1,18 @@
-ghost use Rattle.std.specs.Prelude.{◌≡◌, ◌<◌, ◌≤◌, ◌==◌, ◌||◌, ◌++◌, ◌∷◌, [], true, false, Some, None, Err, pos, nat_abs, nat_lt, nat_eq, not, length, position, if◌then◌else◌, IfOk, OnOk, IsTrue, is_some, MatchOption, Option, option_map, bytes_eq};
+ghost use Rattle.std.specs.Prelude.{◌≡◌, ◌<◌, ◌≤◌, ◌==◌, ◌||◌, ◌++◌, ◌∷◌, [], true, false, Some, None, Err, pos, nat_abs, nat_lt, nat_eq, not, length, map, position, if◌then◌else◌, IfOk, OnOk, IsTrue, is_some, MatchOption, Option, option_map, bytes_eq};
 ghost use Rattle.std.specs.List.{list_any};
 ghost use Rattle.spec_world.specs.Worlds.{ids_of_rows};
 ghost use Rattle.spec_world_file.specs.WorldFile as file;
-ghost use Rattle.spec_world_file.specs.WorldFile.{closed, is_taken, knows_all, for_host, nothing_read, plain_row, repeats, row_with_fails, row_with_name, row_with_need, row_with_effect, row_with_out, runners_of, with_action, with_event, with_fact, with_goal, with_moment, with_open, with_row, with_runners, where_modelled, world_of};
+ghost use Rattle.spec_world_file.specs.WorldFile.{closed, is_taken, knows_all, for_host, nothing_read, plain_row, repeats, row_with_fails, row_with_name, row_with_need, row_with_effect, row_with_out, runners_of, with_action, with_event, with_fact, with_goal, with_moment, with_open, with_rounds, with_row, with_runners, where_modelled, world_of};
 ghost use Rattle.world_draft.specs.Readings.{Leaves};
 ghost use Rattle.world_draft.specs.Drafts.{row_of, Allowed, DraftSays, HeadChecked};
+ghost use Rattle.world_draft.specs.Rounds.{what_of};
 ghost use Rattle.world_draft.specs.Taking.{TookEvent};
 
 use crate::draft::Draft;
 use crate::facts::Facts;
 use crate::knowing::knows_all;
 use crate::ports::Ports;
+use crate::rounds::{Part, push_rounds};
 use crate::rows::Rows;
 use base_tables::{
     MOST_EVENTS, MOST_FACTS, MOST_GOALS, MOST_PORTS, MOST_ROWS, MOST_RUNNERS, is_reserved,
@@ -141,13 +143,6 @@ impl Reading {
         ensures { result ≡ runners_of self.now }
     {
         self.runners.unwrap_or(1)
-    }
-
-    /// The moment to which the lines have gone.
-    pub fn moment(&self) -> u64
-        ensures { result ≡ self.now.moment }
-    {
-        self.moment
     }
 
     /// Takes the event that was read last, if one was.
@@ -438,6 +433,33 @@ impl Reading {
             at: self.moment,
             what,
         })?;
+        Ok(())
+    }
+
+    /// Adds rounds of events from the last moment on, up to and with this one, each `ms` milliseconds after the one before.
+    /// The last moment is then that of the last round. The fault `MomentBack` where this moment lies before the last one,
+    /// `TooMany` above 100,000 events.
+    pub fn add_rounds(
+        &mut self,
+        last: u64,
+        ms: u64,
+        parts: &[Part],
+    ) -> Result<(), Stop<WorldKind>>
+        requires some { 1 ≤ ms }
+        requires near { ms ≤ 1000000000000 }
+        requires early { last ≤ 1000000000000 }
+        ensures { Leaves result self.new (λ said. said ≡ with_rounds last ms (map what_of parts.now) self.old) }
+    {
+        if last < self.moment {
+            return Err(Stop::Fault(WorldKind::MomentBack));
+        }
+        let steps = (last - self.moment) / ms;
+        let more = (steps + 1).saturating_mul(parts.len() as u64);
+        if more.saturating_add(self.events.len() as u64) > MOST_EVENTS as u64 {
+            return Err(Stop::Fault(WorldKind::TooMany));
+        }
+        push_rounds(&mut self.events, self.moment, ms, steps + 1, parts)?;
+        self.moment += steps * ms;
         Ok(())
     }
 }

@@ -8,6 +8,7 @@ use crate::additions::{read_effect, read_fails, read_need, read_out};
 use crate::events::{
     read_change, read_fact, read_goal, read_halt, read_moment, read_runners, read_tick,
 };
+use crate::rounds::read_every;
 use crate::tellings::read_tell;
 use base_texts::Stop;
 use spec_world_file::WorldKind;
@@ -82,6 +83,8 @@ fn read_event(
         read_change(alloc, reading, text)
     } else if is(kind, "tell") {
         read_tell(alloc, reading, text)
+    } else if is(kind, "every") {
+        read_every(alloc, reading, text)
     } else {
         Err(Stop::Fault(WorldKind::BadLine))
     }

@@ -8,6 +8,7 @@ mod events;
 mod forms;
 pub mod laws;
 mod read;
+mod rounds;
 mod tellings;
 mod unique;
 

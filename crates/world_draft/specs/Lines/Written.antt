@@ -1,12 +1,14 @@
--- Values and outputs of a telling, as they are written.
+-- Values and outputs of a telling, and parts of rounds, as they are written.
 use Rattle.std.specs.Prelude.{ℕ, List, Option, Some, None}
 use Rattle.std.specs.Str.Parse.{signed_digits_value}
 use Rattle.spec_script.specs.declared.value.Value.TheVariants as value
 use Rattle.spec_script.specs.declared.value.Value.{Value}
 use Rattle.spec_world.specs.declared.world.ToldOut.{ToldOut}
-use Rattle.spec_world_file.specs.WorldFile.{BeginsWith}
+use Rattle.spec_world_file.specs.WorldFile.{BeginsWith, HaltPart, Part, TickPart}
 use Rattle.world_draft.specs.declared.lines.values.Written.{Written}
 use Rattle.world_draft.specs.declared.lines.values.Written.TheVariants.{Number, Text}
+use Rattle.world_draft.specs.declared.lines.rounds.WrittenPart.{WrittenPart}
+use Rattle.world_draft.specs.declared.lines.rounds.WrittenPart.TheVariants as part
 use Rattle.world_draft.specs.declared.lines.values.WrittenOut.{WrittenOut}
 
 -- the value that is written
@@ -17,6 +19,11 @@ seen_value (Text text) = value.Text text
 -- the output that is written
 abbrev pub seen_out : WrittenOut → ToldOut
 seen_out out = record { port = out.port; value = seen_value out.value }
+
+-- the part that is written
+abbrev pub seen_part : WrittenPart → Part
+seen_part (part.Tick n) = TickPart (signed_digits_value 10 n.word.now)
+seen_part (part.Halt n) = HaltPart (signed_digits_value 10 n.word.now)
 
 -- a text begins with an output, before what follows it, or with none
 abbrev pub FindsOut : List ℕ → Option (ToldOut × List ℕ) → Type 0

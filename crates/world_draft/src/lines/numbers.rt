@@ -2,7 +2,7 @@ ghost use Rattle.std.specs.Prelude.{◌≡◌, nat_abs, pos, true};
 ghost use Rattle.std.specs.Str.Parse.{signed_digits_value};
 ghost use Rattle.spec_tree.specs.Numbers.{in_range, is_int};
 ghost use Rattle.spec_tree.specs.Numbers as numbers;
-ghost use Rattle.spec_world_file.specs.WorldFile.{is_ms, is_uid};
+ghost use Rattle.spec_world_file.specs.WorldFile.{is_ms, is_step, is_uid};
 ghost use Rattle.world_draft.specs.Lines.Ranges.{Passes};
 
 use base_tables::{LAST_MOMENT, canonical_int};
@@ -22,6 +22,20 @@ pub fn ms(word: &[u8]) -> Option<u64>
 {
     let number = u64::try_from(int(word)?).ok()?;
     if number <= LAST_MOMENT {
+        Some(number)
+    } else {
+        None
+    }
+}
+
+/// The time from one round to the next that the word writes, in milliseconds. None where it is below 1 or above the last
+/// moment.
+pub fn step(word: &[u8]) -> Option<u64>
+    requires { numbers.is_canonical word.now ≡ true }
+    ensures { Passes is_step nat_abs (signed_digits_value 10 word.now) result }
+{
+    let number = u64::try_from(int(word)?).ok()?;
+    if number >= 1 && number <= LAST_MOMENT {
         Some(number)
     } else {
         None

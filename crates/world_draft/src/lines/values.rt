@@ -1,9 +1,10 @@
-ghost use Rattle.std.specs.Prelude.{◌≡◌, true};
+ghost use Rattle.std.specs.Prelude.{◌≡◌, nat_abs, pos, true};
 ghost use Rattle.std.specs.Str.Parse.{signed_digits_value};
 ghost use Rattle.spec_tree.specs.Numbers as numbers;
-ghost use Rattle.spec_tree.specs.Numbers.{of_64_bits};
+ghost use Rattle.spec_tree.specs.Numbers.{in_range, of_64_bits};
+ghost use Rattle.world_draft.specs.Lines.Ranges.{Passes};
 
-use crate::lines::numbers::int;
+use crate::lines::numbers::{int, one_of};
 use base_texts::Name;
 
 /// A number as it is written, canonically and however large.
@@ -20,6 +21,13 @@ impl Numeral<'_> {
         ensures { result.word.now ≡ word.now }
     {
         Numeral { word }
+    }
+
+    /// The number. None where it is not in 1 to `most`.
+    pub fn one_of(&self, most: u8) -> Option<u8>
+        ensures { Passes (in_range (pos 1) (pos most)) nat_abs (signed_digits_value 10 self.now.word.now) result }
+    {
+        one_of(self.word, most)
     }
 
     /// The number. None where it would not fit 64 bits.
