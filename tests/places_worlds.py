@@ -88,7 +88,7 @@ WORLDS = [
           lines("goal G")),
     world("a moment that goes back", "MomentBack 4", "W:4:4:", ("4 lies before the last moment, 5", "W:2:4: note"),
           lines("at 5\ntick 1\nat 4")),
-    world("an end that lies before the last moment", "MomentBack 3", "W:3:15:", ("4 lies before the last moment, 5", "W:2:4: note"),
+    world("an end that lies before the last moment", "MomentBack 3", "W:3:16:", ("4 lies before the last moment, 5", "W:2:4: note"),
           lines("at 5\nevery 10 until 4 tick 1")),
     world("a moment before the last round", "MomentBack 3", "W:3:4:", ("9 lies before the last moment, 10", "W:2:16: note"),
           lines("every 10 until 15 tick 1\nat 9")),

@@ -18,7 +18,7 @@ use Rattle.spec_world.specs.declared.world.What.TheVariants.{Change, Halt, Tell,
 use Rattle.spec_world.specs.Worlds.{is_name, ports_told}
 use Rattle.spec_world_file.specs.declared.world_fault.WorldKind.{WorldKind}
 use Rattle.spec_world_file.specs.declared.world_fault.WorldKind.TheVariants.{BadLine, DoubleName, MomentBack, TooMany}
-use Rattle.spec_world_file.specs.WorldFile.{AfterForm, AfterLine, AfterText, AtLine, FactLine, FailsLine, GateLine, GoalLine, HaltLine, Head, IsLine, Line, NameLine, NeedsLine, OutLine, Reading, ReplayLine, RunnersLine, SensedLine, SetLine, SetsLine, TellLine, TickLine, TimedLine, ToldLine, WhenLine, action_line, by_outs, closed, comparison_in, condition_line, content, ends_after, event_line, fact_number, following, front_word, head_in, how_in, is_gap, is_ignored, is_line, is_line_byte, is_long, is_ms, is_runner, is_small, is_uid, line_by, line_in, name_line, named_number, number_line, numbered, out_line, outcomes_in, ranged, repeats, replay_line, runners_of, sets_line, success_in, tell_line, telling_of, timed_line, told_line, with_event, with_moment, with_telling, word}
+use Rattle.spec_world_file.specs.WorldFile.{AfterForm, AfterLine, AfterText, AtLine, EveryLine, FactLine, FailsLine, GateLine, GoalLine, HaltLine, Head, IsLine, Line, NameLine, NeedsLine, OutLine, Reading, ReplayLine, RunnersLine, SensedLine, SetLine, SetsLine, TellLine, TickLine, TimedLine, ToldLine, WhenLine, action_line, by_outs, closed, comparison_in, condition_line, content, ends_after, event_line, every_line, fact_number, following, front_word, head_in, how_in, is_gap, is_ignored, is_line, is_line_byte, is_long, is_ms, is_runner, is_small, is_uid, line_by, line_in, name_line, named_number, number_line, numbered, out_line, outcomes_in, parts_in, ranged, repeats, replay_line, runners_of, sets_line, success_in, tell_line, telling_of, timed_line, told_line, with_event, with_moment, with_telling, word, words_in}
 
 same_bytes : (x y : List ℕ) → bytes_eq x y ≡ true → x ≡ y
 same_bytes x y tie = (bytes_eq-Decides x y).0 tie
@@ -105,6 +105,14 @@ no_out text =
     if_no (is_name (word 0 text) && bytes_eq (word 1 text) (codes "=")) (Some (OutLine (word 0 text) (following 2 text))) (name_line NameLine text)
     refl (no_name NameLine text (λ name. refl))
 
+no_every : (text : List ℕ) → only_asked (every_line text) ≡ None
+no_every text =
+    if_no (bytes_eq (word 1 text) (codes "until") && not (ends_after 3 text))
+    (option_and_then (λ ms. option_and_then (λ last. option_map (EveryLine ms last) (parts_in (words_in (following 3 text)))) (number_in (word 2 text))) (number_in (word 0 text))) None
+    (then_no (λ ms. option_and_then (λ last. option_map (EveryLine ms last) (parts_in (words_in (following 3 text)))) (number_in (word 2 text))) (number_in (word 0 text))
+    (λ ms. then_no (λ last. option_map (EveryLine ms last) (parts_in (words_in (following 3 text)))) (number_in (word 2 text))
+    (λ last. mapped_no (EveryLine ms last) (parts_in (words_in (following 3 text))) (λ parts. refl)))) refl
+
 neither : (a b : Bool) → (a || b) ≡ false → (a ≡ false) × (b ≡ false)
 neither true b h = absurd cc
 neither false b h = (refl, h)
@@ -126,7 +134,8 @@ no_event kind text never =
     (unless_no tick (number_line TickLine text) _ d.1
     (unless_no halt (number_line HaltLine text) _ c.1
     (unless_no set (named_number SetLine text) _ b.1
-    (unless_no tell (tell_line text) None a.1 refl))))))
+    (unless_no tell (tell_line text) _ a.1
+    (if_no (bytes_eq kind (codes "every")) (every_line text) None (no_every text) refl)))))))
 
 no_line : (kind text : List ℕ) → is_request_word kind ≡ false → only_asked (line_by kind text) ≡ None
 no_line kind text never =

@@ -254,7 +254,7 @@ tell_line text =
 
 -- the words of a text
 abbrev pub words_in : List ℕ → List (List ℕ)
-words_in text = filter (λ word. nat_lt 0 (length word)) (slice_split is_gap text)
+words_in text = filter (λ word. not (length word == 0)) (slice_split is_gap text)
 
 -- `tick R` or `halt R`
 abbrev pub part_in : List ℕ → List ℕ → Option Part

@@ -1,4 +1,5 @@
 pub mod Ascii
 pub mod Quoting
 pub mod Rests
+pub mod Rounds
 pub mod Telling

@@ -1,4 +1,5 @@
 pub mod AboutLines
+pub mod AboutRounds
 pub mod Checked
 pub mod Copied
 pub mod Named

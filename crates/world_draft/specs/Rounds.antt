@@ -1,9 +1,9 @@
 -- The parts of a line of rounds, whose runners are there or not.
-use Rattle.std.specs.Prelude.{◌≡◌, ℕ, Bool, true, false, List, map, Option, Some, None, Result, Ok, Err}
+use Rattle.std.specs.Prelude.{◌≡◌, ℕ, Bool, true, false, List, map, Option, Some, None, Result, Ok, Err, Vec}
 use Rattle.std.specs.List.{list_all}
 use Rattle.base_texts.specs.declared.stop.Stop.{Stop}
 use Rattle.base_texts.specs.declared.stop.Stop.TheVariants as stop
-use Rattle.std.specs.Vec.{Vec}
+use Rattle.std.specs.Global.{Global}
 use Rattle.spec_world.specs.declared.world.What.{What}
 use Rattle.spec_world.specs.declared.world.What.TheVariants as what
 use Rattle.spec_world_file.specs.declared.world_fault.WorldKind.{WorldKind}

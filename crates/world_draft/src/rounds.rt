@@ -58,7 +58,7 @@ pub fn parts_within(
 
 /// Adds a round of events at this moment.
 fn push_round(events: &mut Vec<Event>, at: u64, parts: &[Part]) -> Result<(), NoMemory>
-    ensures { OnOk result (events.new.items ≡ events.old.items ++ map (λ part. record { at = at; what = what_of part }) parts.now) }
+    ensures { OnOk result (events.new.items ≡ events.old.items ++ map (λ what. record { at = at; what = what }) (map what_of parts.now)) }
 {
     for part in parts {
         events.push(Event {
@@ -82,9 +82,11 @@ pub fn push_rounds(
     ensures { OnOk result (events.new.items ≡ events.old.items ++ rounds count first ms (map what_of parts.now)) }
 {
     let mut at = first;
-    for _ in 0..count {
+    let mut left = count;
+    'rounds: while left > 0 {
         push_round(events, at, parts)?;
         at += ms;
+        left -= 1;
     }
     Ok(())
 }

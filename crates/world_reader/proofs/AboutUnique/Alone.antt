@@ -7,7 +7,7 @@ use Rattle.spec_world.specs.declared.world.ToldOut.{ToldOut}
 use Rattle.spec_world.specs.declared.world.World.{World}
 use Rattle.spec_world_file.specs.declared.world_fault.WorldFault.{WorldFault}
 use Rattle.spec_world_file.specs.declared.world_fault.WorldKind.{WorldKind}
-use Rattle.spec_world_file.specs.WorldFile.{Line, FactLine, IsLine, WhenLine, TimedLine, ReplayLine, GateLine, SensedLine, ToldLine, FailsLine, NeedsLine, SetsLine, OutLine, NameLine, GoalLine, RunnersLine, AtLine, TickLine, HaltLine, SetLine, TellLine, AfterForm, AfterLine, AfterLines, AfterText, GoesOn, LinesMake, LinesRead, Reading, ReadsNumeric, ReadsOuts, ReadsTold, ReadsWorld, SaysOf, SaysOfOuts, by_expr, by_outs, content, is_ignored, line_in, lines_in, no_header, nothing_read, without_gap, without_return, world_after}
+use Rattle.spec_world_file.specs.WorldFile.{Line, FactLine, IsLine, WhenLine, TimedLine, ReplayLine, GateLine, SensedLine, ToldLine, FailsLine, NeedsLine, SetsLine, OutLine, NameLine, GoalLine, RunnersLine, AtLine, TickLine, HaltLine, SetLine, TellLine, EveryLine, AfterForm, AfterLine, AfterLines, AfterText, GoesOn, LinesMake, LinesRead, Reading, ReadsNumeric, ReadsOuts, ReadsTold, ReadsWorld, SaysOf, SaysOfOuts, by_expr, by_outs, content, is_ignored, line_in, lines_in, no_header, nothing_read, without_gap, without_return, world_after}
 use Rattle.world_draft.proofs.AboutLines.Telling.{never_begins, one_out}
 
 one_numeric : (text : List ℕ) (a b : Option Expr) → ReadsNumeric text a → ReadsNumeric text b → a ≡ b
@@ -58,6 +58,7 @@ one_line r (TickLine runner) a b h k = h ∙ sym k
 one_line r (HaltLine runner) a b h k = h ∙ sym k
 one_line r (SetLine fact value) a b h k = h ∙ sym k
 one_line r (TellLine runner uid succeeds outs) a b h k = one_said outs _ a b h k
+one_line r (EveryLine ms last parts) a b h k = h ∙ sym k
 
 one_form : (r : Reading) (o : Option Line) (a b : Result Reading WorldKind) → AfterForm r o a → AfterForm r o b → a ≡ b
 one_form r None a b h k = h ∙ sym k

@@ -5,6 +5,7 @@ use Rattle.std.specs.List.{All, Contains, list_any}
 use Rattle.std.proofs.lemmas.Cmp.{nat_eq_equiv, nat_list_eq_equiv}
 use Rattle.std.proofs.lemmas.List.{append_assoc, length_push, map-append, length-map}
 use Rattle.std.proofs.lemmas.List.Elements.{All-push, All-weaker, All-nil, All-cons, All-head, All-tail, Contains-append_left, All-get_or}
+use Rattle.std.specs.List.Sorted.{IsNonDecreasingBy}
 use Rattle.std.proofs.lemmas.List.Sorted.{IsNonDecreasingBy-push}
 use Rattle.std.proofs.lemmas.Map.Keys.{IsDistinct-push}
 use Rattle.spec_script.specs.declared.syntax.Expr.{Expr}
@@ -221,6 +222,21 @@ world_with_runners w count h none low high = record {
   few_events = h.few_events;
   events = subst (All (IsValidEvent w.facts count)) (sym none) (All-nil (IsValidEvent w.facts count));
   in_order = h.in_order;
+}
+
+pub world_with_events : (w : World) (events : List Event) → IsValidWorld w → All (IsValidEvent w.facts w.runners) events → IsNonDecreasingBy (λ e. e.at) events → length events ≤ 100000 → IsValidWorld (record w { events = events })
+world_with_events w events h valid ordered few = record {
+  facts = h.facts;
+  openings = h.openings;
+  ids = h.ids;
+  rows = h.rows;
+  goals = h.goals;
+  wanted = h.wanted;
+  some_runner = h.some_runner;
+  few_runners = h.few_runners;
+  few_events = few;
+  events = valid;
+  in_order = ordered;
 }
 
 pub world_with_event : (w : World) (event : Event) → IsValidWorld w → IsValidEvent w.facts w.runners event → All (λ e. e.at ≤ event.at) w.events → length w.events < 100000 → IsValidWorld (record w { events = w.events ++ event ∷ [] })

@@ -1,5 +1,5 @@
 -- A world that a file reads as is valid.
-use Rattle.std.proofs.Common.{◌≡◌, ℕ, ◌+◌, ◌≤◌, Bool, true, false, ◌&&◌, List, [], ◌∷◌, ◌++◌, length, pos, Option, Some, None, Result, Ok, Err, refl, sym, subst, arith}
+use Rattle.std.proofs.Common.{◌≡◌, ℕ, ◌+◌, ◌≤◌, Bool, true, false, ◌&&◌, List, [], ◌∷◌, ◌++◌, map, length, pos, Option, Some, None, Result, Ok, Err, refl, sym, subst, arith}
 use Rattle.std.specs.List.{list_all}
 use Rattle.spec_script.proofs.Bools.{both}
 use Rattle.std.specs.Prelude.{IsTrue, MatchBool, bytes_eq, codes, nat_abs, ◌==◌}
@@ -19,11 +19,12 @@ use Rattle.spec_world_file.specs.declared.world_fault.WorldFault.{WorldFault}
 use Rattle.spec_world_file.specs.declared.world_fault.WorldKind.{WorldKind}
 use Rattle.spec_world.specs.Worlds.{IsComparisonIn, IsValidEvent, IsValidRow, IsValidWorld}
 use Rattle.spec_tree.specs.Numbers.{in_range, is_int}
-use Rattle.spec_world_file.specs.WorldFile.{Line, FactLine, IsLine, WhenLine, TimedLine, ReplayLine, GateLine, SensedLine, ToldLine, FailsLine, NeedsLine, SetsLine, OutLine, NameLine, GoalLine, RunnersLine, AtLine, TickLine, HaltLine, SetLine, TellLine, AfterForm, AfterLine, AfterLines, AfterText, GoesOn, LinesMake, LinesRead, Reading, ReadsNumeric, ReadsOuts, ReadsTold, ReadsWorld, SaysOf, SaysOfOuts, by_expr, by_outs, closed, comparison_number, content, fact_number, is_ms, is_ignored, is_runner, is_small, is_uid, line_in, lines_in, no_header, nothing_read, plain_row, row_with_effect, row_with_fails, row_with_name, row_with_need, row_with_out, runners_of, telling_of, where_modelled, with_action, with_event, with_row, without_return, world_after, world_of}
+use Rattle.spec_world_file.specs.WorldFile.{Line, FactLine, IsLine, WhenLine, TimedLine, ReplayLine, GateLine, SensedLine, ToldLine, FailsLine, NeedsLine, SetsLine, OutLine, NameLine, GoalLine, RunnersLine, AtLine, TickLine, HaltLine, SetLine, TellLine, EveryLine, AfterForm, AfterLine, AfterLines, AfterText, GoesOn, LinesMake, LinesRead, Reading, ReadsNumeric, ReadsOuts, ReadsTold, ReadsWorld, SaysOf, SaysOfOuts, by_expr, by_outs, closed, comparison_number, content, fact_number, is_ms, is_ignored, is_runner, is_small, is_uid, line_in, lines_in, no_header, nothing_read, plain_row, row_with_effect, row_with_fails, row_with_name, row_with_need, row_with_out, runners_of, telling_of, where_modelled, with_action, with_event, with_row, without_return, world_after, world_of, is_step, runner_in, what_in}
 use Rattle.world_reader.proofs.AboutUnique.WellFormed.{AreWell, WellFormed, line_well}
 use Rattle.world_reader.proofs.AboutUnique.Grown.{kept_more}
 use Rattle.world_reader.proofs.AboutUnique.Sound.{Sound, Stays, comparison_there, fact_there, ms_most, no_names, no_numbers, runner_within, sound_closed, uid_within, stays_event, stays_fact, stays_goal, stays_moment, stays_numbered, stays_placed, stays_ranged, stays_runners, valid_expr}
 use Rattle.world_reader.proofs.AboutUnique.SoundRows.{adds_effect, adds_fails, adds_name, adds_need, adds_out, stays_action, stays_comparison, stays_head, stays_modelled, stays_open, stays_placed_open, stays_row}
+use Rattle.world_reader.proofs.AboutUnique.SoundRounds.{parts_valid, stays_rounds}
 use Rattle.world_reader.proofs.AboutUnique.SoundTellings.{stays_telling}
 
 stays_says : (text : List ℕ) (rule : Expr → Result Reading WorldKind) (said : Result Reading WorldKind) → SaysOf text rule said → ((e : Expr) → ReadsNumeric text (Some e) → Stays (rule e)) → Stays said
@@ -100,6 +101,11 @@ stays_line r (TellLine runner uid succeeds outs) said w h k =
     let of_runner = runner_within (runners_of r) runner leaf.0 in
     stays_telling told outs succeeds _ reads numbers.1 (λ valid.
     stays_event (closed r) (Tell (nat_abs runner) (nat_abs uid) (telling_of succeeds told)) (sound_closed r h) (of_runner.0, of_runner.1, uid_within uid leaf.1, valid))))
+stays_line r (EveryLine ms last parts) said w h k =
+    subst Stays (sym k) (stays_ranged (is_step ms && is_ms last && list_all (λ part. is_runner (runners_of r) (runner_in part)) parts) _ (λ within.
+    let numbers = both (is_step ms && is_ms last) (list_all (λ part. is_runner (runners_of r) (runner_in part)) parts) within in
+    let end = both (is_step ms) (is_ms last) numbers.0 in
+    stays_rounds (closed r) (nat_abs last) (nat_abs ms) (map what_in parts) (sound_closed r h) (ms_most last end.1) (parts_valid r.facts (runners_of r) parts numbers.1)))
 
 stays_form : (r : Reading) (o : Option Line) (said : Result Reading WorldKind) → AreWell WellFormed o → Sound r → AfterForm r o said → Stays said
 stays_form r None said w h k = subst Stays (sym k) tt

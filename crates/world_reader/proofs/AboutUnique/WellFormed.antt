@@ -1,5 +1,5 @@
 -- What the words of a line say is well formed.
-use Rattle.std.proofs.Common.{◌≡◌, ℕ, ◌≤◌, Bool, true, false, ◌&&◌, List, [], ◌∷◌, ◌-◌, map, length, take, codes, ℤ, Option, Some, None, refl, arith, if◌then◌else◌}
+use Rattle.std.proofs.Common.{◌≡◌, ℕ, ◌≤◌, Bool, true, false, not, ◌&&◌, List, [], ◌∷◌, ◌-◌, map, length, take, codes, ℤ, Option, Some, None, refl, arith, if◌then◌else◌}
 use Rattle.std.specs.Prelude.{nat_eq, option_map, option_and_then, bytes_eq, nat_lt, nat_le, ◌==◌, ◌||◌}
 use Rattle.std.specs.List.{list_all, slice_split, ends_with}
 use Rattle.std.proofs.lemmas.List.{length-map}
@@ -8,7 +8,7 @@ use Rattle.spec_script.proofs.Bools.{both}
 use Rattle.spec_script.specs.declared.syntax.Cmp.{Cmp}
 use Rattle.spec_world.specs.declared.world.How.{How}
 use Rattle.spec_world.specs.Worlds.{is_name}
-use Rattle.spec_world_file.specs.WorldFile.{Line, FactLine, IsLine, WhenLine, TimedLine, ReplayLine, GateLine, SensedLine, ToldLine, FailsLine, NeedsLine, SetsLine, OutLine, NameLine, GoalLine, RunnersLine, AtLine, TickLine, HaltLine, SetLine, TellLine, Head, head_with, head_of, head_in, comparison_in, outcomes_in, name_line, number_line, named_number, how_in, sets_line, out_line, is_line, condition_line, timed_line, replay_line, told_line, action_line, success_in, tell_line, event_line, line_by, line_in, word, following, ends_after, is_line_byte}
+use Rattle.spec_world_file.specs.WorldFile.{Line, FactLine, IsLine, WhenLine, TimedLine, ReplayLine, GateLine, SensedLine, ToldLine, FailsLine, NeedsLine, SetsLine, OutLine, NameLine, GoalLine, RunnersLine, AtLine, TickLine, HaltLine, SetLine, TellLine, EveryLine, Head, head_with, head_of, head_in, comparison_in, outcomes_in, name_line, number_line, named_number, how_in, sets_line, out_line, is_line, condition_line, timed_line, replay_line, told_line, action_line, success_in, tell_line, event_line, line_by, line_in, word, following, ends_after, is_line_byte, every_line, parts_in, words_in}
 use Rattle.spec_tree.specs.Numbers.{number_in}
 
 pub record NamedHead (head : Head) : Type 0 where
@@ -150,6 +150,13 @@ tell_well text =
     chained (λ (b : Bool). Unit {0}) WellFormed _ (success_in (word 2 text)) (anything (success_in (word 2 text))) (λ succeeds u.
     pick WellFormed (succeeds || ends_after 3 text) (Some (TellLine runner uid succeeds (following 3 text))) None (λ k. tt) tt)))
 
+every_well : (text : List ℕ) → AreWell WellFormed (every_line text)
+every_well text =
+    pick WellFormed (bytes_eq (word 1 text) (codes "until") && not (ends_after 3 text)) _ None (λ k.
+    chained (λ (z : ℤ). Unit {0}) WellFormed _ (number_in (word 0 text)) (anything (number_in (word 0 text))) (λ ms u.
+    chained (λ (z : ℤ). Unit {0}) WellFormed _ (number_in (word 2 text)) (anything (number_in (word 2 text))) (λ last u.
+    mapped WellFormed (EveryLine ms last) (parts_in (words_in (following 3 text))) (λ parts. tt)))) tt
+
 event_well : (kind text : List ℕ) → AreWell WellFormed (event_line kind text)
 event_well kind text =
     pick WellFormed (bytes_eq kind (codes "goal")) (name_line GoalLine text) _ (λ k. name_well GoalLine text (λ w h. tt))
@@ -158,7 +165,8 @@ event_well kind text =
     (pick WellFormed (bytes_eq kind (codes "tick")) (number_line TickLine text) _ (λ k. number_well TickLine text (λ z. tt))
     (pick WellFormed (bytes_eq kind (codes "halt")) (number_line HaltLine text) _ (λ k. number_well HaltLine text (λ z. tt))
     (pick WellFormed (bytes_eq kind (codes "set")) (named_number SetLine text) _ (λ k. named_well SetLine text (λ w z h. tt))
-    (pick WellFormed (bytes_eq kind (codes "tell")) (tell_line text) None (λ k. tell_well text) tt))))))
+    (pick WellFormed (bytes_eq kind (codes "tell")) (tell_line text) _ (λ k. tell_well text)
+    (pick WellFormed (bytes_eq kind (codes "every")) (every_line text) None (λ k. every_well text) tt)))))))
 
 by_well : (kind text : List ℕ) → AreWell WellFormed (line_by kind text)
 by_well kind text =

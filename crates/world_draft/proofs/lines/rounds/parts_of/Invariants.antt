@@ -1,0 +1,12 @@
+use Rattle.std.proofs.Common.{◌≡◌, ◌++◌, map, length}
+use Rattle.std.specs.Prelude.{option_map}
+use Rattle.spec_world_file.specs.WorldFile as file
+use Rattle.world_draft.specs.Lines.Written.{seen_part}
+use Rattle.world_draft.proofs.lines.rounds.parts_of.Given as goal
+
+-- the parts so far, and those that are left, are all
+abbrev pub invariant-parts : goal.invariant-parts
+invariant-parts l = file.parts_in (map (λ word. word.now) l.words) ≡ option_map (λ more. map seen_part l.parts.items ++ more) (file.parts_in (map (λ word. word.now) l.rest))
+
+abbrev pub decreases-parts : goal.decreases-parts
+decreases-parts l = length l.rest
