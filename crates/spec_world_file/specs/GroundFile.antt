@@ -1,11 +1,11 @@
 -- Ground files: what a line says, its faults in their order, and the text that a file stands for.
-use Rattle.std.specs.Prelude.{◌≡◌, ℕ, ◌+◌, ◌-◌, ◌==◌, Bool, true, false, not, ◌&&◌, ◌||◌, nat_le, nat_lt, if◌then◌else◌, List, [], ◌∷◌, ◌++◌, map, filter, length, codes, bytes_eq, position, Option, Some, None, is_some, Result, Ok, Err, slice_get, unwrap_or}
-use Rattle.std.specs.List.{slice_split, list_all, list_any}
+use Rattle.std.specs.Prelude.{◌≡◌, ℕ, ◌+◌, ◌-◌, ◌==◌, Bool, true, false, not, ◌&&◌, ◌||◌, nat_le, nat_lt, if◌then◌else◌, List, [], ◌∷◌, ◌++◌, map, length, codes, bytes_eq, position, Option, Some, None, is_some, Result, Ok, Err, slice_get, unwrap_or}
+use Rattle.std.specs.List.{list_all, list_any}
 use Rattle.spec_world.specs.declared.world.World.{World}
 use Rattle.spec_world_file.specs.declared.world_fault.WorldFault.{WorldFault}
 use Rattle.spec_tree.specs.Limits.{most_file_bytes}
 use Rattle.spec_world.specs.Worlds.{is_name}
-use Rattle.spec_world_file.specs.WorldFile.{ReadsWorld, after_word, content, ends_after, front_word, is_gap, is_ignored, is_line_byte, lines_in, repeats, without_return, word}
+use Rattle.spec_world_file.specs.WorldFile.{ReadsWorld, after_word, content, ends_after, front_word, is_ignored, is_line_byte, lines_in, repeats, without_return, word, words_in}
 use Rattle.spec_world_file.specs.declared.ground_fault.GroundFault.{GroundFault}
 use Rattle.spec_world_file.specs.declared.ground_fault.GroundFault.TheVariants as fault
 use Rattle.spec_world_file.specs.declared.sort.Sort.{Sort}
@@ -113,10 +113,6 @@ with_body number text r =
     if not (after_marks is_variable text) then Err (fault.BadLine number)
     else if not (after_marks (is_open r.blocks) text) then Err (fault.NoName number)
     else Ok (record r { items = r.items ++ Body (record { origin = number; text = text }) ∷ [] })
-
--- the words of a text: what stands between its gaps
-abbrev pub words_in : List ℕ → List (List ℕ)
-words_in text = filter (λ part. not (length part == 0)) (slice_split is_gap text)
 
 -- a line that begins with this word, with what follows the word; one that begins with none of the three is a body line
 abbrev pub with_form : ℕ → (kind rest text : List ℕ) → Reading → Result Reading GroundFault

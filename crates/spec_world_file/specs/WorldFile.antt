@@ -91,6 +91,10 @@ word n text = front_word (following n text)
 abbrev pub ends_after : ℕ → List ℕ → Bool
 ends_after n text = length (following n text) == 0
 
+-- the words of a text: what stands between its gaps
+abbrev pub words_in : List ℕ → List (List ℕ)
+words_in text = filter (λ part. not (length part == 0)) (slice_split is_gap text)
+
 -- ---- Rows, names and numbers
 
 -- the ID of a row and its input ports
@@ -251,10 +255,6 @@ tell_line text =
     option_and_then (λ runner. option_and_then (λ uid. option_and_then (λ succeeds.
     if succeeds || ends_after 3 text then Some (TellLine runner uid succeeds (following 3 text)) else None)
     (success_in (word 2 text))) (number_in (word 1 text))) (number_in (word 0 text))
-
--- the words of a text
-abbrev pub words_in : List ℕ → List (List ℕ)
-words_in text = filter (λ word. not (length word == 0)) (slice_split is_gap text)
 
 -- `tick R` or `halt R`
 abbrev pub part_in : List ℕ → List ℕ → Option Part

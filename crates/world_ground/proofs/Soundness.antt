@@ -5,13 +5,13 @@ use Rattle.std.specs.List.{list_all, ends_with}
 use Rattle.std.proofs.lemmas.Bool.Decides.{nat_tests}
 use Rattle.std.proofs.lemmas.List.Folds.{list_all-append}
 use Rattle.spec_script.proofs.Bools.{both}
-use Rattle.spec_world_file.specs.WorldFile.{after_word, content, ends_after, front_word, is_ignored, is_line_byte, without_return, word}
+use Rattle.spec_world_file.specs.WorldFile.{after_word, content, ends_after, front_word, is_ignored, is_line_byte, without_return, word, words_in}
 use Rattle.spec_world.specs.Worlds.{is_name}
 use Rattle.spec_world_file.specs.declared.ground_fault.GroundFault.{GroundFault}
 use Rattle.spec_world_file.specs.declared.open_block.OpenBlock.{OpenBlock}
 use Rattle.spec_world_file.specs.declared.sort.Sort.{Sort}
 use Rattle.spec_world_file.specs.Blocks.{Body, End, Forall, Item, after_marks, is_variable}
-use Rattle.spec_world_file.specs.GroundFile.{Reading, goes_on, is_double, is_open, most_open, most_sorts, most_values, nothing_read, sort_in, sort_number, sort_with, variable_in, with_block, with_body, with_content, with_end, with_forall, with_form, with_line, with_lines, with_sort, with_variable, with_words, without_block, words_in}
+use Rattle.spec_world_file.specs.GroundFile.{Reading, goes_on, is_double, is_open, most_open, most_sorts, most_values, nothing_read, sort_in, sort_number, sort_with, variable_in, with_block, with_body, with_content, with_end, with_forall, with_form, with_line, with_lines, with_sort, with_variable, with_words, without_block}
 use Rattle.world_ground.specs.Sound.{IsSound, Laid, is_item, is_short, is_small}
 use Rattle.world_ground.proofs.Marked.{both_true, if_false, if_true, ways}
 

@@ -1,14 +1,14 @@
-ghost use Rattle.spec_world_file.specs.GroundFile.{sort_in, with_end, with_forall, with_form, with_line, with_sort, words_in};
+ghost use Rattle.spec_world_file.specs.GroundFile.{sort_in, with_end, with_forall, with_form, with_line, with_sort};
+ghost use Rattle.spec_world_file.specs.WorldFile.{words_in};
 ghost use Rattle.world_ground.specs.Readings.{Leaves};
 
 use crate::marks::variable_in;
 use crate::reading::Reading;
 use crate::sort::sort_in;
-use crate::words::words;
 use base_texts::Stop;
 use spec_world_file::GroundFault;
 use std::alloc::Global;
-use world_draft::{content, cut, is, is_ignored, is_line, is_name, trimmed};
+use world_draft::{content, cut, is, is_ignored, is_line, is_name, trimmed, words};
 
 /// Reads the line of this number: adds what it says, or answers its first fault. `NoMemory` (want of memory, that is, out
 /// of memory), here and below, where an allocation fails.

@@ -13,7 +13,6 @@ mod read;
 mod reading;
 mod sizes;
 mod sort;
-mod words;
 mod world;
 mod write;
 

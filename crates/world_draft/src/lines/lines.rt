@@ -1,7 +1,7 @@
 ghost use Rattle.std.specs.Prelude.{◌≡◌, ◌==◌, ◌≤◌, ◌-◌, ◌||◌, nat_eq, codes, map, length, take, IfOk, bytes_eq};
 ghost use Rattle.std.specs.List.{list_all, slice_split, starts_with, suffix_len, prefix_len, position_or_len};
 ghost use Rattle.spec_world_file.specs.WorldFile as file;
-ghost use Rattle.spec_world_file.specs.WorldFile.{is_gap, is_line_byte, without_empty_rest, without_return, without_gap, before_gap, front_word, after_word, words_in};
+ghost use Rattle.spec_world_file.specs.WorldFile.{is_gap, is_line_byte, without_empty_rest, without_return, without_gap, before_gap, front_word, after_word};
 
 use std::alloc::{AllocError, Global};
 
@@ -31,15 +31,6 @@ pub fn parts(alloc: Global, bytes: &[u8], separator: u8) -> Result<Vec<&[u8]>, A
     ensures { IfOk result (λ v. map (λ part. part.now) v.items ≡ slice_split (λ b. b == separator) bytes.now) }
 {
     bytes.split(|b| *b == separator).collect(alloc)
-}
-
-/// The words of a text. `AllocError` where an allocation fails.
-pub fn words(alloc: Global, text: &[u8]) -> Result<Vec<&[u8]>, AllocError>
-    ensures { IfOk result (λ v. map (λ word. word.now) v.items ≡ words_in text.now) }
-{
-    text.split(|b| is_blank(*b))
-        .filter(|word| !word.is_empty())
-        .collect(alloc)
 }
 
 /// The parts without an empty one at the end.

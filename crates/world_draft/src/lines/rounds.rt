@@ -3,8 +3,9 @@ ghost use Rattle.spec_world_file.specs.WorldFile as file;
 ghost use Rattle.spec_world_file.specs.WorldFile.{part_in, words_in};
 ghost use Rattle.world_draft.specs.Lines.Written.{seen_part};
 
-use crate::lines::lines::{is, words};
+use crate::lines::lines::is;
 use crate::lines::values::Numeral;
+use crate::lines::words::words;
 use base_tables::is_canonical;
 use base_texts::NoMemory;
 use std::alloc::Global;
@@ -40,18 +41,17 @@ fn parts_of<'a>(
 {
     let mut parts = Vec::new(alloc);
     let mut rest = words;
-    'parts: while let [verb, runner, after @ ..] = rest {
+    'parts: while let Some((verb, after)) = rest.split_first() {
+        let Some((runner, after)) = after.split_first() else {
+            return Ok(None);
+        };
         match part(verb, runner) {
             Some(part) => parts.push(part)?,
             None => return Ok(None),
         }
         rest = after;
     }
-    if rest.is_empty() {
-        Ok(Some(parts))
-    } else {
-        Ok(None)
-    }
+    Ok(Some(parts))
 }
 
 /// The parts that the text is, with gaps between their words. None where it is not of that form.

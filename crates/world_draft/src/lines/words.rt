@@ -1,7 +1,6 @@
 ghost use Rattle.std.specs.Prelude.{◌≡◌, map, IfOk};
 ghost use Rattle.std.specs.List.{slice_split};
-ghost use Rattle.spec_world_file.specs.WorldFile.{is_gap};
-ghost use Rattle.spec_world_file.specs.GroundFile.{words_in};
+ghost use Rattle.spec_world_file.specs.WorldFile.{is_gap, words_in};
 
 use base_texts::NoMemory;
 use std::alloc::{AllocError, Global};
