@@ -2,6 +2,7 @@
 //! that are told, and parts of rounds.
 
 mod exprs;
+mod gaps;
 mod head;
 mod lines;
 mod names;
@@ -10,9 +11,9 @@ mod quoted;
 mod rounds;
 mod told;
 mod values;
-mod words;
 
 pub use exprs::numeric;
+pub use gaps::words;
 pub use head::{Head, head_in};
 pub use lines::{content, cut, is, is_ignored, is_line, parts, trimmed, without_rest};
 pub use names::{is_name, name_of, names_of};
@@ -20,4 +21,3 @@ pub use numbers::{int, ms, one_of, step, uid};
 pub use rounds::{WrittenPart, parts_in};
 pub use told::outs_in;
 pub use values::{Numeral, Written, WrittenOut};
-pub use words::words;

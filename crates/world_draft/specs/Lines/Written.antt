@@ -1,10 +1,10 @@
 -- Values and outputs of a telling, and parts of rounds, as they are written.
-use Rattle.std.specs.Prelude.{ℕ, List, Option, Some, None}
+use Rattle.std.specs.Prelude.{◌≡◌, ◌+◌, ℕ, List, ◌∷◌, drop, Option, Some, None, option_and_then, option_map}
 use Rattle.std.specs.Str.Parse.{signed_digits_value}
 use Rattle.spec_script.specs.declared.value.Value.TheVariants as value
 use Rattle.spec_script.specs.declared.value.Value.{Value}
 use Rattle.spec_world.specs.declared.world.ToldOut.{ToldOut}
-use Rattle.spec_world_file.specs.WorldFile.{BeginsWith, HaltPart, Part, TickPart}
+use Rattle.spec_world_file.specs.WorldFile.{BeginsWith, HaltPart, Part, TickPart, parts_in}
 use Rattle.world_draft.specs.declared.lines.values.Written.{Written}
 use Rattle.world_draft.specs.declared.lines.values.Written.TheVariants.{Number, Text}
 use Rattle.world_draft.specs.declared.lines.rounds.WrittenPart.{WrittenPart}
@@ -24,6 +24,10 @@ seen_out out = record { port = out.port; value = seen_value out.value }
 abbrev pub seen_part : WrittenPart → Part
 seen_part (part.Tick n) = TickPart (signed_digits_value 10 n.word.now)
 seen_part (part.Halt n) = HaltPart (signed_digits_value 10 n.word.now)
+
+-- the words from a place on begin with a part, or are none
+abbrev pub PartFound : List (List ℕ) → ℕ → Option Part → Type 0
+PartFound words place found = parts_in (drop place words) ≡ option_and_then (λ part. option_map (λ parts. part ∷ parts) (parts_in (drop (place + 2) words))) found
 
 -- a text begins with an output, before what follows it, or with none
 abbrev pub FindsOut : List ℕ → Option (ToldOut × List ℕ) → Type 0

@@ -1,11 +1,11 @@
-ghost use Rattle.std.specs.Prelude.{◌≡◌, IfOk, map, option_map};
+ghost use Rattle.std.specs.Prelude.{◌≡◌, ◌+◌, ◌<◌, ◌≤◌, IfOk, IfSome, length, map, option_map, slice_get};
 ghost use Rattle.spec_world_file.specs.WorldFile as file;
 ghost use Rattle.spec_world_file.specs.WorldFile.{part_in, words_in};
-ghost use Rattle.world_draft.specs.Lines.Written.{seen_part};
+ghost use Rattle.world_draft.specs.Lines.Written.{PartFound, seen_part};
 
+use crate::lines::gaps::words;
 use crate::lines::lines::is;
 use crate::lines::values::Numeral;
-use crate::lines::words::words;
 use base_tables::is_canonical;
 use base_texts::NoMemory;
 use std::alloc::Global;
@@ -32,6 +32,28 @@ fn part<'a>(verb: &[u8], runner: &'a [u8]) -> Option<WrittenPart<'a>>
     }
 }
 
+/// The word at a place. None where there are no more words.
+fn word_at<'a>(words: &[&'a [u8]], place: usize) -> Option<&'a [u8]>
+    ensures { option_map (λ word. word.now) result ≡ slice_get (map (λ word. word.now) words.now) place }
+{
+    words.get(place).copied()
+}
+
+/// The part that the words at a place and after it are. None where they are none.
+fn part_at<'a>(words: &[&'a [u8]], place: usize) -> Option<WrittenPart<'a>>
+    requires { place < length words.now }
+    ensures found { PartFound (map (λ word. word.now) words.now) place (option_map seen_part result) }
+    ensures within { IfSome result (λ part. place + 2 ≤ length words.now) }
+{
+    let Some(verb) = word_at(words, place) else {
+        return None;
+    };
+    let Some(runner) = word_at(words, place + 1) else {
+        return None;
+    };
+    part(verb, runner)
+}
+
 /// The parts that the words are, two words each. None where they are of no such form.
 fn parts_of<'a>(
     alloc: Global,
@@ -40,16 +62,13 @@ fn parts_of<'a>(
     ensures { IfOk result (λ parts. option_map (λ v. map seen_part v.items) parts ≡ file.parts_in (map (λ word. word.now) words.now)) }
 {
     let mut parts = Vec::new(alloc);
-    let mut rest = words;
-    'parts: while let Some((verb, after)) = rest.split_first() {
-        let Some((runner, after)) = after.split_first() else {
-            return Ok(None);
-        };
-        match part(verb, runner) {
+    let mut place = 0;
+    'parts: while place < words.len() {
+        match part_at(words, place) {
             Some(part) => parts.push(part)?,
             None => return Ok(None),
         }
-        rest = after;
+        place += 2;
     }
     Ok(Some(parts))
 }

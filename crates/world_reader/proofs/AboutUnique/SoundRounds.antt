@@ -14,6 +14,7 @@ use Rattle.spec_world.specs.declared.world.What.{What}
 use Rattle.spec_world.specs.Worlds.{IsValidEvent, IsValidWhat}
 use Rattle.spec_world_file.specs.declared.world_fault.WorldKind.{WorldKind}
 use Rattle.spec_world_file.specs.WorldFile.{HaltPart, Part, Reading, TickPart, is_runner, rounds, runner_in, runners_of, steps_to, what_in, with_rounds, world_of}
+use Rattle.world_draft.proofs.AboutRounds.{one_more}
 use Rattle.world_reader.proofs.AboutUnique.Grown.{world_with_events}
 use Rattle.world_reader.proofs.AboutUnique.Sound.{Sound, Stays, at_most, runner_within, stays_else}
 
@@ -60,7 +61,8 @@ module _ (facts : List Fact) (runners : ℕ) where
   rounds_more (suc n) at ms whats events early valid h =
       let round : List Event = map (λ what. record { at = at; what = what }) whats in
       let next : Runs (at + ms) (events ++ round) = later at (at + ms) (events ++ round) (omega arith) (round_more at whats events (omega (arith, early)) valid h) in
-      let end : at + ms + n * ms ≡ at + suc n * ms = omega arith in
+      let more : suc n * ms ≡ n * ms + ms = one_more n ms in
+      let end : at + ms + n * ms ≡ at + suc n * ms = omega (arith, more) in
       subst (λ (last : ℕ). Runs last (events ++ (round ++ rounds (suc n) (at + ms) ms whats))) end
       (subst (Runs (at + ms + n * ms)) (append_assoc events round (rounds (suc n) (at + ms) ms whats))
       (rounds_more n (at + ms) ms whats (events ++ round) (omega (arith, early, end)) valid next))
@@ -69,7 +71,8 @@ length-rounds : (n at ms : ℕ) (whats : List What) → length (rounds n at ms w
 length-rounds zero at ms whats = refl
 length-rounds (suc n) at ms whats =
     let round : List Event = map (λ what. record { at = at; what = what }) whats in
-    omega (arith, length-append round (rounds n (at + ms) ms whats), length-map whats (λ (what : What). record { at = at; what = what }), length-rounds n (at + ms) ms whats)
+    let more : suc n * length whats ≡ n * length whats + length whats = one_more n (length whats) in
+    omega (arith, more, length-append round (rounds n (at + ms) ms whats), length-map whats (λ (what : What). record { at = at; what = what }), length-rounds n (at + ms) ms whats)
 
 pub stays_rounds : (r : Reading) (last ms : ℕ) (whats : List What) → Sound r → last ≤ 1000000000000 → All (IsValidWhat r.facts (runners_of r)) whats → Stays (with_rounds last ms whats r)
 stays_rounds r last ms whats h early valid =

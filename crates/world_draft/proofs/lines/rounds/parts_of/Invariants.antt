@@ -1,4 +1,4 @@
-use Rattle.std.proofs.Common.{◌≡◌, ◌++◌, map, length}
+use Rattle.std.proofs.Common.{◌≡◌, ◌≤◌, ◌-◌, ◌++◌, drop, map, length}
 use Rattle.std.specs.Prelude.{option_map}
 use Rattle.spec_world_file.specs.WorldFile as file
 use Rattle.world_draft.specs.Lines.Written.{seen_part}
@@ -6,7 +6,10 @@ use Rattle.world_draft.proofs.lines.rounds.parts_of.Given as goal
 
 -- the parts so far, and those that are left, are all
 abbrev pub invariant-parts : goal.invariant-parts
-invariant-parts l = file.parts_in (map (λ word. word.now) l.words) ≡ option_map (λ more. map seen_part l.parts.items ++ more) (file.parts_in (map (λ word. word.now) l.rest))
+invariant-parts l = record {
+  all : file.parts_in (map (λ word. word.now) l.fn.words) ≡ option_map (λ more. map seen_part l.parts.items ++ more) (file.parts_in (drop l.place (map (λ word. word.now) l.fn.words)));
+  within : l.place ≤ length l.fn.words;
+}
 
 abbrev pub decreases-parts : goal.decreases-parts
-decreases-parts l = length l.rest
+decreases-parts l = length l.fn.words - l.place
