@@ -7,7 +7,7 @@ use Rattle.spec_run.specs.declared.leaf.Instance.{Instance}
 use Rattle.spec_run.specs.declared.leaf.Phase.{Phase}
 use Rattle.spec_world.specs.declared.world.RowSort.TheVariants.{Timed, Replay, Gate}
 use Rattle.spec_world.specs.declared.world.Telling.{Telling}
-use Rattle.spec_run.specs.Leaf.{Way, Tests, Lasts, Replays, Waits, Heeds, Obeys, Rule, Answered, keeping, released, rule_answer, told}
+use Rattle.spec_run.specs.Leaf.{Way, Tests, Lasts, LastsBy, Replays, Waits, Heeds, Obeys, Rule, Answered, keeping, released, rule_answer, told}
 use Rattle.spec_run.specs.Drivers.{DriverState, instance_of, is_held, after_call, driver_at}
 use Rattle.spec_run.specs.declared.leaf.DriverKind.TheVariants as driver
 use Rattle.spec_run.specs.declared.leaf.Phase.TheVariants as phase
@@ -16,6 +16,7 @@ use Rattle.spec_run.specs.declared.leaf.Phase.TheVariants as phase
 abbrev pub kind_of_way : Way → DriverKind
 kind_of_way (Tests test) = driver.Condition
 kind_of_way (Lasts ms fails) = driver.Timed
+kind_of_way (LastsBy length fails) = driver.Timed
 kind_of_way (Replays ms outcomes) = driver.Replay
 kind_of_way (Waits test) = driver.Gate
 kind_of_way Heeds = driver.Told

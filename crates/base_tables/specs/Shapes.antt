@@ -22,7 +22,7 @@ use Rattle.spec_tree.specs.declared.term.PortValue.{PortValue}
 use Rattle.spec_tree.specs.declared.term.PortValue.TheVariants.{Lit, Key}
 use Rattle.spec_world.specs.declared.world.Row.{Row}
 use Rattle.spec_world.specs.declared.world.RowSort.{RowSort}
-use Rattle.spec_world.specs.declared.world.RowSort.TheVariants.{Timed, Replay, Gate, Told}
+use Rattle.spec_world.specs.declared.world.RowSort.TheVariants.{Timed, TimedBy, Replay, Gate, Told}
 use Rattle.spec_tree.specs.Boards.{port_of}
 use Rattle.spec_tree.specs.BuiltIns.{fits, rate_of}
 use Rattle.base_tables.specs.Moves.{place_at_hand}
@@ -160,6 +160,7 @@ PacedChild false ss = AllIdle ss
 -- the row of a leaf that can be RUNNING is timed, replay, gate or told
 abbrev pub Lasts : RowSort → Type 0
 Lasts (Timed ms fails) = Unit {0}
+Lasts (TimedBy length fails) = Unit {0}
 Lasts (Replay ms outcomes) = Unit {0}
 Lasts (Gate test) = Unit {0}
 Lasts (Told outs) = Unit {0}

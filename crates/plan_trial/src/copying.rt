@@ -48,6 +48,10 @@ fn copy_sort(alloc: Global, sort: &RowSort) -> Result<RowSort, NoMemory>
             ms: *ms,
             fails: copy_fails(alloc, fails)?,
         }),
+        RowSort::TimedBy { length, fails } => Ok(RowSort::TimedBy {
+            length: copy_expr(alloc, length)?,
+            fails: copy_fails(alloc, fails)?,
+        }),
         RowSort::Replay { ms, outcomes } => Ok(RowSort::Replay {
             ms: *ms,
             outcomes: Items::of(Vec::from_slice(alloc, outcomes.list())?),

@@ -105,6 +105,7 @@ pub(crate) fn output_sources(
         RowSort::Is { .. }
         | RowSort::When(_)
         | RowSort::Timed { .. }
+        | RowSort::TimedBy { .. }
         | RowSort::Replay { .. }
         | RowSort::Gate(_)
         | RowSort::Sensed => out_sources(row.outs.list(), ports, setting, scope),

@@ -20,6 +20,7 @@ abbrev pub IsSortOver : List (List ℕ) → List Fact → RowSort → Type 0
 IsSortOver ports facts (sort.Is fact op value) = fact < length facts
 IsSortOver ports facts (sort.When test) = IsExprOver ports (names_of_facts facts) test
 IsSortOver ports facts (sort.Timed ms fails) = IfSome fails (IsExprOver ports (names_of_facts facts))
+IsSortOver ports facts (sort.TimedBy length fails) = IsExprOver ports (names_of_facts facts) length × IfSome fails (IsExprOver ports (names_of_facts facts))
 IsSortOver ports facts (sort.Replay ms outcomes) = Unit {0}
 IsSortOver ports facts (sort.Gate test) = IsExprOver ports (names_of_facts facts) test
 IsSortOver ports facts sort.Sensed = Unit {0}

@@ -1,4 +1,6 @@
-ghost use Rattle.std.specs.Prelude.{◌≡◌, ◌+◌, ◌≤◌, IfOk, IfSome, length, map, option_map};
+ghost use Rattle.std.specs.Prelude as prelude;
+ghost use Rattle.std.specs.Prelude.{◌≡◌, ◌+◌, ◌≤◌, [], IfOk, IfSome, length, map, option_map};
+ghost use Rattle.spec_world.specs.declared.world.RowSort.TheVariants as sort;
 ghost use Rattle.std.specs.List.{All};
 ghost use Rattle.spec_run.specs.Drivers.{kind_of_row};
 ghost use Rattle.base_tables.specs.DriverCalls.{kind_of_way};
@@ -47,6 +49,25 @@ fn ready_fails(
     }
 }
 
+/// How an action answers whose length is worked out, its expressions made ready, or want of memory.
+fn ready_length(
+    alloc: Global,
+    length: &Expr,
+    fails: &Option<Expr>,
+    names: &Names,
+) -> Result<ReadySort, NoMemory>
+    requires length { IsExprOver names.now.ports.now (names_of_facts names.now.facts.now) length.now }
+    requires fails { IfSome fails.now (IsExprOver names.now.ports.now (names_of_facts names.now.facts.now)) }
+    ensures way { IfOk result (λ s. ready_way s
+        ≡ way_of (place_of names.now.ports.now names.now.facts.now) (sort.TimedBy length.now fails.now)) }
+    ensures told { IfOk result (λ s. ready_told s ≡ []) }
+    ensures reach { IfOk result (λ s. sort_reach s ≤ 8 + prelude.length names.now.facts.now) }
+{
+    let length = ready_expr(alloc, length, names)?;
+    let fails = ready_fails(alloc, fails, names)?;
+    Ok(ReadySort::TimedBy { length, fails })
+}
+
 /// How a row answers, its expressions made ready, or want of memory.
 fn ready_sort(alloc: Global, sort: &RowSort, names: &Names) -> Result<ReadySort, NoMemory>
     requires { IsSortOver names.now.ports.now names.now.facts.now sort.now }
@@ -65,6 +86,7 @@ fn ready_sort(alloc: Global, sort: &RowSort, names: &Names) -> Result<ReadySort,
             ms: *ms,
             fails: ready_fails(alloc, fails, names)?,
         }),
+        RowSort::TimedBy { length, fails } => ready_length(alloc, length, fails, names),
         RowSort::Replay { ms, outcomes } => {
             let outcomes = Vec::from_slice(alloc, outcomes.list())?;
             Ok(ReadySort::Replay {
@@ -101,7 +123,7 @@ pub fn kind_of(row: &Row) -> DriverKind
     match &row.sort {
         RowSort::Is { .. } => DriverKind::Condition,
         RowSort::When(_) => DriverKind::Condition,
-        RowSort::Timed { .. } => DriverKind::Timed,
+        RowSort::Timed { .. } | RowSort::TimedBy { .. } => DriverKind::Timed,
         RowSort::Replay { .. } => DriverKind::Replay,
         RowSort::Gate(_) => DriverKind::Gate,
         RowSort::Sensed => DriverKind::Told,

@@ -11,6 +11,11 @@ pub enum ReadySort {
     When(ReadyExpr),
     /// An action that lasts `ms` milliseconds, and then fails where `fails` is not 0.
     Timed { ms: u64, fails: Option<ReadyExpr> },
+    /// An action that lasts as many milliseconds as `length` gives where it begins, and then fails where `fails` is not 0.
+    TimedBy {
+        length: ReadyExpr,
+        fails: Option<ReadyExpr>,
+    },
     /// An action that lasts `ms` milliseconds, and then succeeds or fails by the next outcome.
     Replay { ms: u64, outcomes: Items<bool> },
     /// An action that is held until the expression is not 0.

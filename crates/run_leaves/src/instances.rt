@@ -11,6 +11,7 @@ pub fn fresh() -> Hold
     Hold {
         since: None,
         completions: 0,
+        length: None,
     }
 }
 
@@ -21,6 +22,18 @@ pub fn held(since: u64, instance: Hold) -> Hold
     Hold {
         since: Some(since),
         completions: instance.completions,
+        length: instance.length,
+    }
+}
+
+/// The instance, to be held for so many milliseconds.
+pub fn lasting_for(ms: u64, instance: Hold) -> Hold
+    ensures { result ≡ leaf.lasting_for ms instance }
+{
+    Hold {
+        since: instance.since,
+        completions: instance.completions,
+        length: Some(ms),
     }
 }
 
@@ -31,6 +44,7 @@ pub fn released(instance: Hold) -> Hold
     Hold {
         since: None,
         completions: instance.completions,
+        length: instance.length,
     }
 }
 
@@ -41,6 +55,7 @@ pub fn completed(instance: Hold) -> Hold
     Hold {
         since: None,
         completions: instance.completions.saturating_add(1).min(64),
+        length: instance.length,
     }
 }
 

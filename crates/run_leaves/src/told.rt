@@ -20,6 +20,7 @@ fn fresh(alloc: Global) -> Instance
         since: None,
         completions: 0,
         told: None,
+        length: None,
         inputs: Items::of(Vec::new(alloc)),
     }
 }

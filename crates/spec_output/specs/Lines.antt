@@ -107,6 +107,7 @@ abbrev pub cause_words : LineNames → ℕ → Cause → List ℕ
 cause_words names uid (cause.NoEntry slot) = codes "NoEntry " ++ cell_words (cell_at names slot)
 cause_words names uid (cause.NoInput place) = codes "NoInput " ++ input_name names uid place
 cause_words names uid cause.Overflow = codes "Overflow"
+cause_words names uid cause.Range = codes "Range"
 cause_words names uid cause.ZeroDivisor = codes "ZeroDivisor"
 cause_words names uid cause.NotWhole = codes "NotWhole"
 cause_words names uid cause.Mixed = codes "Mixed"

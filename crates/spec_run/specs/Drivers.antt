@@ -6,7 +6,7 @@ use Rattle.spec_run.specs.declared.leaf.Phase.{Phase}
 use Rattle.spec_run.specs.declared.leaf.Totals.{Totals}
 use Rattle.spec_world.specs.declared.world.Row.{Row}
 use Rattle.spec_world.specs.declared.world.RowSort.{RowSort}
-use Rattle.spec_world.specs.declared.world.RowSort.TheVariants.{Is, When, Timed, Replay, Gate, Sensed, Told}
+use Rattle.spec_world.specs.declared.world.RowSort.TheVariants.{Is, When, Timed, TimedBy, Replay, Gate, Sensed, Told}
 use Rattle.spec_run.specs.Leaf.{fresh}
 use Rattle.spec_run.specs.declared.leaf.DriverKind.TheVariants as driver
 use Rattle.spec_run.specs.declared.leaf.Phase.TheVariants as phase
@@ -18,6 +18,7 @@ abbrev pub kind_of_sort : RowSort → DriverKind
 kind_of_sort (Is fact op value) = driver.Condition
 kind_of_sort (When test) = driver.Condition
 kind_of_sort (Timed ms fails) = driver.Timed
+kind_of_sort (TimedBy length fails) = driver.Timed
 kind_of_sort (Replay ms outcomes) = driver.Replay
 kind_of_sort (Gate test) = driver.Gate
 kind_of_sort Sensed = driver.Told

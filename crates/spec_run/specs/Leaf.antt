@@ -1,5 +1,5 @@
 -- The leaf rule: what a driver answers for a row of the world, and what the call leaves.
-use Rattle.std.specs.Prelude.{ℕ, ℤ, pos, ◌+◌, ◌+ℤ◌, ◌-◌, nat_lt, min, List, [], ◌∷◌, ◌++◌, map, length, replicate, slice_index_or, slice_set, Bool, true, false, not, if◌then◌else◌, Option, Some, None, option_map, is_some, unwrap_or, Result, Ok, Err}
+use Rattle.std.specs.Prelude.{ℕ, ℤ, pos, ◌+◌, ◌+ℤ◌, ◌-◌, nat_lt, nat_abs, min, List, [], ◌∷◌, ◌++◌, map, length, replicate, slice_index_or, slice_set, Bool, true, false, not, if◌then◌else◌, Option, Some, None, option_map, is_some, unwrap_or, Result, Ok, Err}
 use Rattle.std.specs.Ordering.{int_cmp}
 use Rattle.std.specs.Str.{bytes_eq}
 use Rattle.spec_script.specs.declared.cells.Seen.{Seen}
@@ -13,18 +13,20 @@ use Rattle.spec_script.specs.Evaluation.{eval_of}
 use Rattle.spec_script.specs.Operators.{bounded, is_true, compares}
 use Rattle.base_texts.specs.Results.{◌>>=◌}
 use Rattle.spec_run.specs.declared.fault.Cause.{Cause}
-use Rattle.spec_run.specs.declared.fault.Cause.TheVariants.{NoInput, Overflow, ZeroDivisor, NotWhole, Mixed, TextTooLong}
+use Rattle.spec_run.specs.declared.fault.Cause.TheVariants.{NoInput, Overflow, Range, ZeroDivisor, NotWhole, Mixed, TextTooLong}
 use Rattle.spec_run.specs.declared.leaf.Instance.{Instance}
 use Rattle.spec_run.specs.declared.leaf.Phase.{Phase}
 use Rattle.spec_run.specs.declared.leaf.Reply.{Reply}
 use Rattle.spec_run.specs.declared.leaf.Reply.TheVariants.{Running, Success, Failure, Broken}
+use Rattle.spec_tree.specs.Limits.{last_moment}
+use Rattle.spec_tree.specs.Numbers.{in_range}
 use Rattle.spec_world.specs.declared.world.Fact.{Fact}
 use Rattle.spec_world.specs.declared.world.How.{How}
 use Rattle.spec_world.specs.declared.world.How.TheVariants.{To, By}
 use Rattle.spec_world.specs.declared.world.Out.{Out}
 use Rattle.spec_world.specs.declared.world.Row.{Row}
 use Rattle.spec_world.specs.declared.world.RowSort.{RowSort}
-use Rattle.spec_world.specs.declared.world.RowSort.TheVariants.{Is, When, Timed, Replay, Gate, Sensed, Told}
+use Rattle.spec_world.specs.declared.world.RowSort.TheVariants.{Is, When, Timed, TimedBy, Replay, Gate, Sensed, Told}
 use Rattle.spec_world.specs.declared.world.Set.{Set}
 use Rattle.spec_world.specs.declared.world.Telling.{Telling}
 use Rattle.spec_world.specs.declared.world.Telling.TheVariants as telling
@@ -68,6 +70,11 @@ as_number (Ok (Int n)) = Ok n
 as_number (Ok (Text t)) = Err Mixed
 as_number (Err fault) = Err (cause_of fault)
 
+-- a number as a length in milliseconds
+abbrev pub as_length : Result ℤ Cause → Result ℕ Cause
+as_length (Ok n) = if in_range (pos 0) (pos last_moment) n then Ok (nat_abs n) else Err Range
+as_length (Err cause) = Err cause
+
 -- a number, or the cause of its fault
 abbrev pub caused : Result ℤ ExecFault → Result ℤ Cause
 caused (Ok n) = Ok n
@@ -94,6 +101,8 @@ pub data Way : Type 0 where
   Tests : (test : Test) → Way
   -- an action lasts some milliseconds, and then fails where this is true
   Lasts : (ms : ℕ) (fails : Option Test) → Way
+  -- an action lasts as many milliseconds as this gives where it begins, and then fails where the other is true
+  LastsBy : (length : Number) (fails : Option Test) → Way
   -- an action lasts some milliseconds, and then has its next outcome
   Replays : (ms : ℕ) (outcomes : List Bool) → Way
   -- an action waits until this is true
@@ -132,6 +141,7 @@ abbrev pub way_of : (List ℕ → ℕ) → RowSort → Way
 way_of places (Is fact op value) = Tests (comparison fact op value)
 way_of places (When test) = Tests (test_of places test)
 way_of places (Timed ms fails) = Lasts ms (option_map (test_of places) fails)
+way_of places (TimedBy length fails) = LastsBy (number_of places length) (option_map (test_of places) fails)
 way_of places (Replay ms outcomes) = Replays ms outcomes
 way_of places (Gate test) = Waits (test_of places test)
 way_of places Sensed = Heeds
@@ -153,11 +163,15 @@ rule_of names row = rule_by (place_of row.ports names) row
 
 -- an instance that was never held or started, and was told nothing
 abbrev pub fresh : Instance
-fresh = record { since = None; completions = 0; told = None; inputs = [] }
+fresh = record { since = None; completions = 0; told = None; length = None; inputs = [] }
 
 -- an instance that is held since a moment
 abbrev pub held : ℕ → Instance → Instance
 held since instance = record instance { since = Some since }
+
+-- an instance that is to be held for so many milliseconds
+abbrev pub lasting_for : ℕ → Instance → Instance
+lasting_for ms instance = record instance { length = Some ms }
 
 -- an instance that is no longer held, and is told nothing; its completions stay
 abbrev pub released : Instance → Instance
@@ -280,6 +294,16 @@ abbrev pub lasting : ℕ → ℕ → ℕ → Instance → List ℤ → Answered 
 lasting since ms now instance facts ending =
     if nat_lt (now - since) ms then replied Running (held since instance) facts else ending
 
+-- how long an action lasts: what is worked out where it begins, and from then on what its instance keeps
+abbrev pub length_of : Number → Instance → List Seen → List ℤ → Result ℕ Cause
+length_of length instance inputs facts =
+    if is_some instance.since then Ok (unwrap_or instance.length 0) else as_length (length inputs facts)
+
+-- goes on with a length; a fault is the reply, and changes nothing
+abbrev pub measured : Result ℕ Cause → Instance → List ℤ → (ℕ → Answered) → Answered
+measured (Ok ms) instance facts go = go ms
+measured (Err cause) instance facts go = replied (Broken cause) instance facts
+
 -- what a condition was told: FAILURE where it was told nothing
 abbrev pub sensed : Option Telling → Reply
 sensed (Some (telling.Success outs)) = Success
@@ -298,6 +322,9 @@ answer_by (Tests test) rule since instance inputs facts now =
     judged (test inputs facts) instance facts (λ b. replied (if b then Success else Failure) (released instance) facts)
 answer_by (Lasts ms fails) rule since instance inputs facts now =
     lasting since ms now instance facts (timed_end fails rule instance inputs facts)
+answer_by (LastsBy length fails) rule since instance inputs facts now =
+    measured (length_of length instance inputs facts) instance facts
+    (λ ms. lasting since ms now (lasting_for ms instance) facts (timed_end fails rule instance inputs facts))
 answer_by (Replays ms outcomes) rule since instance inputs facts now =
     lasting since ms now instance facts (decided (outcome_at outcomes instance.completions) rule instance (completed instance) inputs facts)
 answer_by (Waits test) rule since instance inputs facts now =

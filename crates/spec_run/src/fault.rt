@@ -29,6 +29,8 @@ pub enum Cause {
     Mixed,
     /// A joined text would have more than 4,096 bytes.
     TextTooLong,
+    /// The length of an action is not 0 to 1,000,000,000,000 milliseconds.
+    Range,
     /// A numeric port holds no number of its range.
     BadPort { port: PortId },
 }

@@ -16,7 +16,7 @@ use Rattle.spec_world.specs.declared.world.Fact.{Fact}
 use Rattle.spec_world.specs.declared.world.Out.{Out}
 use Rattle.spec_world.specs.declared.world.Row.{Row}
 use Rattle.spec_world.specs.declared.world.RowSort.{RowSort}
-use Rattle.spec_world.specs.declared.world.RowSort.TheVariants.{Is, When, Timed, Replay, Gate, Sensed, Told}
+use Rattle.spec_world.specs.declared.world.RowSort.TheVariants.{Is, When, Timed, TimedBy, Replay, Gate, Sensed, Told}
 use Rattle.spec_world.specs.declared.world.Set.{Set}
 use Rattle.spec_world.specs.declared.world.Telling.{Telling}
 use Rattle.spec_world.specs.declared.world.Telling.TheVariants as telling
@@ -110,6 +110,7 @@ abbrev pub IsValidSort : List Fact → List (List ℕ) → RowSort → Type 0
 IsValidSort facts ports (Is fact op value) = (fact < length facts) × IsTrue (is_int value) × (ports ≡ [])
 IsValidSort facts ports (When e) = IsExprOver ports (names_of_facts facts) e
 IsValidSort facts ports (Timed ms fails) = (ms ≤ last_moment) × IfSome fails (IsExprOver ports (names_of_facts facts))
+IsValidSort facts ports (TimedBy length fails) = IsExprOver ports (names_of_facts facts) length × IfSome fails (IsExprOver ports (names_of_facts facts))
 IsValidSort facts ports (Replay ms outcomes) = (ms ≤ last_moment) × (1 ≤ length outcomes) × (length outcomes ≤ most_outcomes)
 IsValidSort facts ports (Gate e) = IsExprOver ports (names_of_facts facts) e
 IsValidSort facts ports Sensed = Unit {0}

@@ -41,6 +41,8 @@ pub enum RowSort {
     When(Expr),
     /// An action that lasts `ms` milliseconds, and then fails where `fails` is not 0.
     Timed { ms: u64, fails: Option<Expr> },
+    /// An action that lasts as many milliseconds as `length` gives where it begins, and then fails where `fails` is not 0.
+    TimedBy { length: Expr, fails: Option<Expr> },
     /// An action that lasts `ms` milliseconds, and then succeeds or fails by the next outcome.
     Replay { ms: u64, outcomes: Items<bool> },
     /// An action that is held until the expression is not 0.

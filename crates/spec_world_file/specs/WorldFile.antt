@@ -8,6 +8,7 @@ use Rattle.spec_script.specs.Reading.{ReadsExpr}
 use Rattle.spec_script.specs.declared.syntax.Cmp.{Cmp}
 use Rattle.spec_script.specs.declared.syntax.Cmp.TheVariants.{Equal, Differ, Less, AtMost, More, AtLeast}
 use Rattle.spec_script.specs.declared.syntax.Expr.{Expr}
+use Rattle.spec_script.specs.declared.syntax.Expr.TheVariants.{Group}
 use Rattle.spec_script.specs.Scripts.{names_of, texts_of}
 use Rattle.spec_script.specs.declared.value.Value.{Value}
 use Rattle.spec_script.specs.declared.value.Value.TheVariants.{Int, Text}
@@ -16,7 +17,7 @@ use Rattle.spec_world.specs.declared.world.How.{How}
 use Rattle.spec_world.specs.declared.world.How.TheVariants.{To, By}
 use Rattle.spec_world.specs.declared.world.Row.{Row}
 use Rattle.spec_world.specs.declared.world.RowSort.{RowSort}
-use Rattle.spec_world.specs.declared.world.RowSort.TheVariants.{Is, When, Timed, Replay, Gate, Sensed, Told}
+use Rattle.spec_world.specs.declared.world.RowSort.TheVariants.{Is, When, Timed, TimedBy, Replay, Gate, Sensed, Told}
 use Rattle.spec_world.specs.declared.world.Event.{Event}
 use Rattle.spec_world.specs.declared.world.Out.{Out}
 use Rattle.spec_world.specs.declared.world.Set.{Set}
@@ -134,6 +135,7 @@ pub data Line : Type 0 where
   IsLine : (id fact : List ℕ) (op : Cmp) (value : ℤ) → Line
   WhenLine : (head : Head) (expr : List ℕ) → Line
   TimedLine : (head : Head) (ms : ℤ) → Line
+  TimedByLine : (head : Head) (expr : List ℕ) → Line
   ReplayLine : (head : Head) (ms : ℤ) (outcomes : List Bool) → Line
   GateLine : (head : Head) (expr : List ℕ) → Line
   SensedLine : (head : Head) → Line
@@ -222,9 +224,10 @@ condition_line text =
     else if bytes_eq (word 1 text) (codes "told") then told_line SensedLine (word 0 text) (following 2 text)
     else None
 
--- `MS`, of an action that lasts
+-- `MS` or `(EXPR)`, of an action that lasts
 abbrev pub timed_line : List ℕ → Head → Option Line
-timed_line text head = number_line (TimedLine head) text
+timed_line text head =
+    if starts_with nat_eq text (codes "(") then Some (TimedByLine head text) else number_line (TimedLine head) text
 
 -- `MS OUTCOMES`
 abbrev pub replay_line : List ℕ → Head → Option Line
@@ -233,7 +236,7 @@ replay_line text head =
     then option_and_then (λ ms. option_map (ReplayLine head ms) (outcomes_in (word 1 text))) (number_in (word 0 text))
     else None
 
--- `ROW timed MS`, `ROW replay MS OUTCOMES`, `ROW gate EXPR` or `ROW told`
+-- `ROW timed MS`, `ROW timed (EXPR)`, `ROW replay MS OUTCOMES`, `ROW gate EXPR` or `ROW told`
 abbrev pub action_line : List ℕ → Option Line
 action_line text =
     if bytes_eq (word 1 text) (codes "timed") then option_and_then (timed_line (following 2 text)) (head_in (word 0 text))
@@ -515,6 +518,7 @@ with_comparison id fact op value r =
 abbrev pub knows_sort : List (List ℕ) → List Fact → RowSort → Bool
 knows_sort ports facts (When e) = knows_all ports facts e
 knows_sort ports facts (Gate e) = knows_all ports facts e
+knows_sort ports facts (TimedBy length fails) = knows_all ports facts length
 knows_sort ports facts _ = true
 
 -- a row of its own name, whose ports differ, and whose names are known
@@ -534,6 +538,8 @@ with_open_row r (Err kind) = Err kind
 abbrev pub fails_by : RowSort → Row → Bool → Expr → Result Row WorldKind
 fails_by (Timed ms None) row known e = if known then Ok (record row { sort = Timed ms (Some e) }) else Err NoName
 fails_by (Timed ms (Some other)) row known e = Err DoubleName
+fails_by (TimedBy length None) row known e = if known then Ok (record row { sort = TimedBy length (Some e) }) else Err NoName
+fails_by (TimedBy length (Some other)) row known e = Err DoubleName
 fails_by _ row known e = Err BadLine
 
 -- a row that fails where this expression is not 0
@@ -637,6 +643,11 @@ with_telling outs said =
     else if nat_lt most_outputs (length outs) || list_any (λ out. is_long out.value) outs then Err TooMany
     else said
 
+-- an expression that stands in parentheses
+abbrev pub is_group : Expr → Bool
+is_group (Group e) = true
+is_group _ = false
+
 -- the open action where it is modelled, to which lines may add
 abbrev pub where_modelled : Option Row → Option Row
 where_modelled None = None
@@ -675,6 +686,7 @@ AfterLine r (FactLine name opening) said = said ≡ ranged (is_int opening) (wit
 AfterLine r (IsLine id fact op value) said = said ≡ ranged (is_int value) (with_comparison id fact op value (closed r))
 AfterLine r (WhenLine head expr) said = SaysOf expr (λ e. with_head head with_row (When e) (closed r)) said
 AfterLine r (TimedLine head ms) said = said ≡ ranged (is_ms ms) (with_head head with_action (Timed (nat_abs ms) None) (closed r))
+AfterLine r (TimedByLine head expr) said = SaysOf expr (λ e. placed (is_group e) (with_head head with_action (TimedBy e None) (closed r))) said
 AfterLine r (ReplayLine head ms outcomes) said = said ≡ ranged (is_ms ms) (with_head head with_action (Replay (nat_abs ms) outcomes) (closed r))
 AfterLine r (GateLine head expr) said = SaysOf expr (λ e. with_head head with_action (Gate e) (closed r)) said
 AfterLine r (SensedLine head) said = said ≡ with_head head with_row Sensed (closed r)

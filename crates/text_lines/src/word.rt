@@ -38,6 +38,7 @@ pub fn put_cause(out: &mut Vec<u8>, uid: u32, cause: Cause, names: &Names) -> Re
             put_bytes(out, names.input_name(uid, place))
         }
         Cause::Overflow => put_bytes(out, b"Overflow"),
+        Cause::Range => put_bytes(out, b"Range"),
         Cause::ZeroDivisor => put_bytes(out, b"ZeroDivisor"),
         Cause::NotWhole => put_bytes(out, b"NotWhole"),
         Cause::Mixed => put_bytes(out, b"Mixed"),

@@ -1,6 +1,7 @@
 -- A row that is not finished.
-use Rattle.std.specs.Prelude.{◌≡◌, ◌<◌, ◌||◌, ℕ, Bool, true, false, nat_lt, List, [], length, bytes_eq, Option, IfSome, Result, Ok, Err}
+use Rattle.std.specs.Prelude.{◌≡◌, ◌<◌, ◌||◌, ℕ, Bool, true, false, nat_lt, List, [], length, bytes_eq, Option, Some, None, IfSome, Result, Ok, Err, if◌then◌else◌}
 use Rattle.std.specs.List.{list_any}
+use Rattle.spec_script.specs.declared.syntax.Expr.{Expr}
 use Rattle.spec_tree.specs.Limits.{most_ports, most_rows}
 use Rattle.spec_world.specs.Worlds.{ids_of_rows}
 use Rattle.base_texts.specs.declared.stop.Stop.{Stop}
@@ -47,3 +48,8 @@ DraftSays (Ok draft) head sort r =
     × ((add : Row → Reading → Result Reading WorldKind) → with_head head add sort r ≡ add (row_of draft) r)
 DraftSays (Err stop.NoMemory) head sort r = Unit {0}
 DraftSays (Err (stop.Fault kind)) head sort r = (add : Row → Reading → Result Reading WorldKind) → with_head head add sort r ≡ Err kind
+
+-- what is said of an expression by which an action is to fail, where no line says it yet
+abbrev pub fails_said : Option Expr → Bool → Expr → Result (Option Expr) WorldKind
+fails_said (Some other) known e = Err DoubleName
+fails_said None known e = if known then Ok (Some e) else Err NoName

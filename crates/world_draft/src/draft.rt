@@ -3,7 +3,7 @@ ghost use Rattle.std.specs.List.{list_any};
 ghost use Rattle.spec_world.specs.Worlds as worlds;
 ghost use Rattle.spec_world_file.specs.WorldFile.{plain_row, row_with_effect, row_with_fails, row_with_name, row_with_need, row_with_out};
 ghost use Rattle.world_draft.specs.Readings.{Leaves};
-ghost use Rattle.world_draft.specs.Drafts.{row_of};
+ghost use Rattle.world_draft.specs.Drafts.{fails_said, row_of};
 
 use crate::facts::Facts;
 use crate::knowing::knows_all;
@@ -69,7 +69,7 @@ impl Draft {
         ensures { result ≡ worlds.is_modelled (row_of self.now).sort }
     {
         match &self.sort {
-            RowSort::Timed { .. } => true,
+            RowSort::Timed { .. } | RowSort::TimedBy { .. } => true,
             RowSort::Replay { .. } => true,
             RowSort::Gate(_) => true,
             _ => false,
@@ -83,25 +83,9 @@ impl Draft {
         ensures id { self.new.id ≡ self.old.id }
     {
         let known = knows_all(facts, &self.ports, &expr);
-        match &self.sort {
-            RowSort::Timed { ms, fails: None } => {
-                if !known {
-                    drop(expr);
-                    return Err(Stop::Fault(WorldKind::NoName));
-                }
-                let sort = RowSort::Timed {
-                    ms: *ms,
-                    fails: Some(expr),
-                };
-                drop(replace(&mut self.sort, sort));
-                Ok(())
-            }
-            RowSort::Timed {
-                ms: _,
-                fails: Some(_),
-            } => {
-                drop(expr);
-                Err(Stop::Fault(WorldKind::DoubleName))
+        match &mut self.sort {
+            RowSort::Timed { fails, .. } | RowSort::TimedBy { fails, .. } => {
+                set_fails(fails, known, expr)
             }
             _ => {
                 drop(expr);
@@ -208,6 +192,27 @@ impl Draft {
         self.outs.push(out)?;
         Ok(())
     }
+}
+
+/// Sets when an action fails, where no line says it yet. The fault `DoubleName` where one does, `NoName` where not all
+/// names of the expression are known.
+fn set_fails(
+    fails: &mut Option<Expr>,
+    known: bool,
+    expr: Expr,
+) -> Result<(), Stop<WorldKind>>
+    ensures { Leaves result fails.new (λ said. said ≡ fails_said fails.old known expr) }
+{
+    if fails.is_some() {
+        drop(expr);
+        return Err(Stop::Fault(WorldKind::DoubleName));
+    }
+    if !known {
+        drop(expr);
+        return Err(Stop::Fault(WorldKind::NoName));
+    }
+    drop(replace(fails, Some(expr)));
+    Ok(())
 }
 
 /// Whether one of the names is this.

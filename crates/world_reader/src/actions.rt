@@ -5,12 +5,12 @@ ghost use Rattle.spec_world.specs.Worlds as worlds;
 ghost use Rattle.spec_tree.specs.Numbers.{is_int};
 ghost use Rattle.spec_tree.specs.Numbers as numbers;
 ghost use Rattle.spec_world_file.specs.WorldFile as file;
-ghost use Rattle.spec_world_file.specs.WorldFile.{AfterForm, GateLine, SensedLine, ToldLine, WhenLine, action_line, ranged, with_comparison, comparison_in, condition_line, is_line, is_line_byte, outcomes_in, replay_line, timed_line, told_line};
+ghost use Rattle.spec_world_file.specs.WorldFile.{AfterForm, GateLine, SensedLine, TimedByLine, TimedLine, ToldLine, WhenLine, action_line, ranged, with_comparison, comparison_in, condition_line, is_line, is_line_byte, number_line, outcomes_in, replay_line, timed_line, told_line};
 ghost use Rattle.world_draft.specs.Readings.{Leaves};
 
 use base_tables::{MOST_OUTCOMES, is_canonical};
 use base_texts::{Items, Stop};
-use spec_script::Cmp;
+use spec_script::{Cmp, Expr};
 use spec_world::{Row, RowSort};
 use spec_world_file::WorldKind;
 use std::alloc::{AllocError, Global};
@@ -94,7 +94,7 @@ pub fn read_condition(
     }
 }
 
-/// Reads `action ROW timed MS`, `action ROW replay MS OUTCOMES`, `action ROW gate EXPR` or `action ROW told`, from after
+/// Reads `action ROW timed MS`, `action ROW timed (EXPR)`, `action ROW replay MS OUTCOMES`, `action ROW gate EXPR` or `action ROW told`, from after
 /// `action`.
 pub fn read_action(alloc: Global, reading: &mut Reading, text: &[u8]) -> Result<(), Stop<WorldKind>>
     requires { list_all is_line_byte text.now ≡ true }
@@ -223,14 +223,68 @@ fn read_gate(
     }
 }
 
-/// Reads `MS`, of the action with this head.
+/// Whether the expression stands in parentheses.
+fn is_group(e: &Expr) -> bool
+    ensures { result ≡ file.is_group e.now }
+{
+    matches!(e, Expr::Group(_))
+}
+
+/// Reads `(EXPR)`, of the action with this head.
+fn read_length(
+    alloc: Global,
+    reading: &mut Reading,
+    row: &[u8],
+    text: &[u8],
+) -> Result<(), Stop<WorldKind>>
+    requires { list_all is_line_byte text.now ≡ true }
+    ensures { Leaves result reading.new (AfterForm reading.old (option_map (λ head. TimedByLine head text.now) (file.head_in row.now))) }
+{
+    let Some(head) = head_in(alloc, row)? else {
+        return Err(Stop::Fault(WorldKind::BadLine));
+    };
+    let Some(length) = numeric(alloc, text)? else {
+        return Err(Stop::Fault(WorldKind::BadLine));
+    };
+    if !is_group(&length) {
+        return Err(Stop::Fault(WorldKind::BadLine));
+    }
+    reading.close(alloc)?;
+    let sort = RowSort::TimedBy {
+        length,
+        fails: None,
+    };
+    match reading.draft_of(alloc, head.id, head.ports, sort) {
+        Ok(draft) => reading.open_action(draft),
+        Err(stop) => Err(stop),
+    }
+}
+
+/// Reads `MS` or `(EXPR)`, of the action with this head.
 fn read_timed(
     alloc: Global,
     reading: &mut Reading,
     row: &[u8],
     text: &[u8],
 ) -> Result<(), Stop<WorldKind>>
+    requires { list_all is_line_byte text.now ≡ true }
     ensures { Leaves result reading.new (AfterForm reading.old (option_and_then (timed_line text.now) (file.head_in row.now))) }
+{
+    if text.starts_with(b"(".as_slice()) {
+        read_length(alloc, reading, row, text)
+    } else {
+        read_fixed(alloc, reading, row, text)
+    }
+}
+
+/// Reads `MS`, of the action with this head.
+fn read_fixed(
+    alloc: Global,
+    reading: &mut Reading,
+    row: &[u8],
+    text: &[u8],
+) -> Result<(), Stop<WorldKind>>
+    ensures { Leaves result reading.new (AfterForm reading.old (option_and_then (λ head. number_line (TimedLine head) text.now) (file.head_in row.now))) }
 {
     let Some(head) = head_in(alloc, row)? else {
         return Err(Stop::Fault(WorldKind::BadLine));
