@@ -1,6 +1,7 @@
 -- Where the bytes of a name stand.
-use Rattle.std.specs.Prelude.{ℕ, ◌==◌, if◌then◌else◌, List, take}
+use Rattle.std.specs.Prelude.{ℕ, List, Option, Some, None, take}
 
--- so many bytes of a short room, or the long text where they are none
-abbrev pub text_of : ℕ → List ℕ → List ℕ → List ℕ
-text_of len short long = if len == 0 then long else take len short
+-- the long text, or so many bytes of a short room where there is none
+abbrev pub text_of : ℕ → List ℕ → Option (List ℕ) → List ℕ
+text_of len short (Some long) = long
+text_of len short None = take len short

@@ -1,6 +1,7 @@
-ghost use Rattle.std.specs.Prelude.{◌≡◌, ◌≤◌, IsUtf8, IfOk, length, take};
+ghost use Rattle.std.specs.Prelude.{◌≡◌, ◌≤◌, [], IsUtf8, IfOk, length, take};
 
 use crate::items::Items;
+use crate::shared::Shared;
 use crate::stop::NoMemory;
 use std::alloc::Global;
 use std::cmp::Ordering;
@@ -11,12 +12,14 @@ use std::marker::Model;
 const MOST_SHORT: usize = 23;
 
 /// Any UTF-8 text: an ID, a key, a file's name. Contracts see its bytes. A text of up to 23 bytes stands in the name
-/// itself, so that most names take no memory.
+/// itself, so that most names take no memory. A longer one is kept once for the name and all its copies.
 #[derive(Debug, Drop)]
 pub struct Name {
-    long: Vec<u8>,
+    /// The text, where it is long.
+    long: Option<Shared<Items<u8>>>,
+    /// Where it is short, its first bytes.
     short: [u8; MOST_SHORT],
-    /// How many bytes of `short` are the text. 0 where `long` is the text.
+    /// How many bytes of `short` are the text.
     len: u8,
 }
 
@@ -26,50 +29,56 @@ impl Model for Name {
 
     ghost Value = { List ℕ };
 
-    ghost view = { λ name. text_of name.len name.short name.long.items };
+    ghost view = { λ name. text_of name.len name.short name.long };
 
-    ghost invariant = { λ name. (name.len ≤ 23) × IsUtf8 (text_of name.len name.short name.long.items) };
+    ghost invariant = { λ name. (name.len ≤ 23) × IsUtf8 (text_of name.len name.short name.long) };
 }
 
 impl Name {
-    /// The name with these bytes. It allocates nothing.
-    pub fn of(bytes: Vec<u8>) -> Name
-        requires { IsUtf8 bytes.items }
-        ensures { result ≡ bytes.items }
+    /// The empty name. It allocates nothing.
+    pub fn empty() -> Name
+        ensures { result ≡ [] }
     {
-        if bytes.len() <= MOST_SHORT {
-            Name::short(*bytes.allocator(), bytes.as_slice())
-        } else {
-            Name::long(bytes)
-        }
+        Name::short(b"")
     }
 
     /// A name with these bytes. `NoMemory` where an allocation fails.
+    pub fn of(bytes: Vec<u8>) -> Result<Name, NoMemory>
+        requires { IsUtf8 bytes.items }
+        ensures { IfOk result (λ name. name ≡ bytes.items) }
+    {
+        if bytes.len() <= MOST_SHORT {
+            return Ok(Name::short(bytes.as_slice()));
+        }
+        Name::long(*bytes.allocator(), bytes)
+    }
+
+    /// A name with a copy of these bytes. `NoMemory` where an allocation fails.
     pub fn copied(alloc: Global, bytes: &[u8]) -> Result<Name, NoMemory>
         requires { IsUtf8 bytes.now }
         ensures { IfOk result (λ name. name ≡ bytes.now) }
     {
         if bytes.len() <= MOST_SHORT {
-            Ok(Name::short(alloc, bytes))
-        } else {
-            Ok(Name::long(Vec::from_slice(alloc, bytes)?))
+            return Ok(Name::short(bytes));
         }
+        Name::long(alloc, Vec::from_slice(alloc, bytes)?)
     }
 
     /// A name that keeps its bytes apart.
-    fn long(bytes: Vec<u8>) -> Name
+    fn long(alloc: Global, bytes: Vec<u8>) -> Result<Name, NoMemory>
         requires { IsUtf8 bytes.items }
-        ensures { result ≡ bytes.items }
+        ensures { IfOk result (λ name. name ≡ bytes.items) }
     {
-        Name {
-            long: bytes,
+        let text = Shared::of(alloc, Items::of(bytes))?;
+        Ok(Name {
+            long: Some(text),
             short: [0; MOST_SHORT],
             len: 0,
-        }
+        })
     }
 
     /// A name in which its bytes stand, which are few.
-    fn short(alloc: Global, bytes: &[u8]) -> Name
+    fn short(bytes: &[u8]) -> Name
         requires few { length bytes.now ≤ 23 }
         requires utf8 { IsUtf8 bytes.now }
         ensures { result ≡ bytes.now }
@@ -77,7 +86,7 @@ impl Name {
         let mut short = [0; MOST_SHORT];
         copy_in(&mut short, bytes);
         Name {
-            long: Vec::new(alloc),
+            long: None,
             short,
             len: bytes.len() as u8,
         }
@@ -88,24 +97,25 @@ impl Name {
         ensures bytes { result.now ≡ self.now }
         ensures utf8 { IsUtf8 self.now }
     {
-        match usize::from(self.len) {
-            0 => self.long.as_slice(),
-            len => &self.short[..len],
+        match &self.long {
+            Some(text) => text.get().list(),
+            None => &self.short[..usize::from(self.len)],
         }
     }
 
-    /// An equal name. `NoMemory` where an allocation fails.
-    pub fn copy(&self, alloc: Global) -> Result<Name, NoMemory>
+    /// An equal name. A long text is not copied. `NoMemory` stands for a full count of its owners.
+    pub fn copy(&self, _alloc: Global) -> Result<Name, NoMemory>
         ensures { IfOk result (λ name. name ≡ self.now) }
     {
-        if self.len > 0 {
-            return Ok(Name {
-                long: Vec::new(alloc),
-                short: self.short,
-                len: self.len,
-            });
-        }
-        Ok(Name::long(Vec::from_slice(alloc, self.long.as_slice())?))
+        let long = match &self.long {
+            Some(text) => Some(text.share()?),
+            None => None,
+        };
+        Ok(Name {
+            long,
+            short: self.short,
+            len: self.len,
+        })
     }
 }
 

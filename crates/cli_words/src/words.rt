@@ -488,8 +488,7 @@ pub fn read_serve<'a>(words: &'a [Name]) -> Option<Serve<'a>>
 pub fn word_of(alloc: Global, word: &str) -> Result<Name, NoMemory>
     ensures { IfOk result (λ name. name ≡ word.now) }
 {
-    let bytes = Vec::from_slice(alloc, word.as_bytes())?;
-    Ok(Name::of(bytes))
+    Name::copied(alloc, word.as_bytes())
 }
 
 /// Why the words of the command line can't be had.

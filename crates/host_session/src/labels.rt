@@ -16,7 +16,7 @@ fn path_of(alloc: Global, above: &Name, name: &Name) -> Result<Name, NoMemory>
 {
     let mut path = Vec::from_slice(alloc, above.list())?;
     path.extend_from_slice(name.list())?;
-    Ok(Name::of(path))
+    Name::of(path)
 }
 
 /// What the paths below a node begin with.
@@ -85,7 +85,7 @@ fn add_labels(
 pub fn labels_of(alloc: Global, tree: &Tree) -> Result<Vec<Label>, NoMemory>
     ensures { IfOk result (λ labels. labels.items ≡ definition.labels tree.now) }
 {
-    let above = Name::of(Vec::new(alloc));
+    let above = Name::empty();
     let mut labels = Vec::new(alloc);
     add_labels(alloc, &tree.term, 0, &above, &mut labels)?;
     Ok(labels)

@@ -37,7 +37,7 @@ fn id_of(alloc: Global, rows: &[Row], row: u32) -> Result<Name, NoMemory>
 {
     match rows.get(row as usize) {
         Some(row) => row.id.copy(alloc),
-        None => Ok(Name::of(Vec::new(alloc))),
+        None => Ok(Name::empty()),
     }
 }
 
@@ -80,7 +80,7 @@ fn name_at(alloc: Global, rows: &[Row], t: &PlanTree, key: usize) -> Result<Name
 {
     match row_at(t, key) {
         Some(row) => id_of(alloc, rows, row),
-        None => Ok(Name::of(Vec::new(alloc))),
+        None => Ok(Name::empty()),
     }
 }
 

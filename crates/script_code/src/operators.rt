@@ -1,4 +1,6 @@
 ghost use Rattle.std.specs.Prelude.{◌≡◌};
+ghost use Rattle.std.specs.Cmp.Lexicographic.{slice_cmp};
+ghost use Rattle.std.specs.Ordering.{nat_cmp};
 ghost use Rattle.base_texts.specs.Stops.{Gives};
 ghost use Rattle.script_code.specs.IntEntries.{GivesInt, IsAnswered, IsInt};
 ghost use Rattle.spec_script.specs.Operators.{truth, quotient, compares, on_int, on_ints, on_texts, number_in, unary_on, binary_on};
@@ -93,27 +95,35 @@ pub fn binary_ints(op: BinOp, x: i64, y: i64) -> Result<i64, ExecFault>
 }
 
 /// The two texts as one.
-fn join(first: Txt, second: &Txt) -> Result<Value, Stop<ExecFault>>
-    ensures { Gives result (on_texts BinOp.Add first second.now) }
+fn join(first: &Txt, second: &Txt) -> Result<Value, Stop<ExecFault>>
+    ensures { Gives result (on_texts BinOp.Add first.now second.now) }
 {
-    let more = second.list();
-    if first.list().len() + more.len() > 4096 {
+    if first.list().len() + second.list().len() > 4096 {
         return Err(Stop::Fault(ExecFault::TextTooLong));
     }
-    let mut bytes = first.into_vec();
-    bytes.extend_from_slice(more)?;
-    Ok(Value::Text(Txt::of(bytes)))
+    Ok(Value::Text(first.joined(second)?))
+}
+
+/// Whether the comparison holds of the two texts. Where it asks only whether they are equal, the lengths mostly tell.
+fn texts_compare(cmp: Cmp, first: &[u8], second: &[u8]) -> bool
+    ensures { result ≡ compares cmp (slice_cmp nat_cmp first.now second.now) }
+{
+    match cmp {
+        Cmp::Equal => first == second,
+        Cmp::Differ => first != second,
+        _ => holds(cmp, first.cmp(second)),
+    }
 }
 
 /// An operator between two texts.
-fn binary_texts(op: BinOp, first: Txt, second: &Txt) -> Result<Value, Stop<ExecFault>>
-    ensures { Gives result (on_texts op first second.now) }
+fn binary_texts(op: BinOp, first: &Txt, second: &Txt) -> Result<Value, Stop<ExecFault>>
+    ensures { Gives result (on_texts op first.now second.now) }
 {
     match op {
         BinOp::Add => join(first, second),
         BinOp::Compare(cmp) => {
-            let order = first.list().cmp(second.list());
-            Ok(Value::Int(as_number(holds(cmp, order))))
+            let holds = texts_compare(cmp, first.list(), second.list());
+            Ok(Value::Int(as_number(holds)))
         }
         _ => Err(Stop::Fault(ExecFault::Mixed)),
     }
@@ -153,7 +163,7 @@ pub fn binary_values(op: BinOp, first: Value, second: Value) -> Result<Value, St
         },
         Value::Text(s) => match second {
             Value::Int(_) => Err(Stop::Fault(ExecFault::Mixed)),
-            Value::Text(t) => binary_texts(op, s, &t),
+            Value::Text(t) => binary_texts(op, &s, &t),
         },
     }
 }

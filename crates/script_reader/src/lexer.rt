@@ -249,7 +249,7 @@ fn quoted(alloc: Global, text: &[u8], at: usize) -> Result<(Token, usize), Stop<
     if len == following.len() {
         return Err(Stop::Fault(ScriptFault::Syntax { place: at as u32 }));
     }
-    let body = Txt::of(Vec::from_slice(alloc, &following[..len])?);
+    let body = Txt::of(Vec::from_slice(alloc, &following[..len])?)?;
     Ok((Token::Text(body), len + 2))
 }
 

@@ -43,7 +43,7 @@ pub fn parse_script(alloc: Global, text: &[u8]) -> Result<Script, Stop<ScriptFau
         Some(fault) => Err(Stop::Fault(fault)),
         None => {
             let stmts = Items::of(statements(alloc, lexed.tokens.as_slice())?);
-            let text = Txt::of(Vec::from_slice(alloc, text)?);
+            let text = Txt::of(Vec::from_slice(alloc, text)?)?;
             Ok(Script { text, stmts })
         }
     }

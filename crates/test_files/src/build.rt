@@ -146,7 +146,7 @@ fn asked_text(
 {
     match main {
         Some(id) => {
-            let name = Name::of(Vec::from_slice(alloc, id.as_bytes())?);
+            let name = Name::copied(alloc, id.as_bytes())?;
             built_text(alloc, elements, models, Some(&name))
         }
         None => built_text(alloc, elements, models, None),

@@ -18,7 +18,7 @@ use std::test::Fail;
 fn slots_of(alloc: Global, pairs: &[(&str, u32)]) -> Result<Vec<(Name, u32)>, NoMemory> {
     let mut slots = Vec::new(alloc);
     for (name, slot) in pairs {
-        slots.push((Name::of(Vec::from_slice(alloc, name.as_bytes())?), *slot))?;
+        slots.push((Name::copied(alloc, name.as_bytes())?, *slot))?;
     }
     Ok(slots)
 }

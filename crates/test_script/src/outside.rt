@@ -107,7 +107,7 @@ fn sinks_over_writers(rt: HostRuntime) -> Result<(), Fail> {
 
 /// A name of these bytes.
 fn name(alloc: Global, text: &str) -> Result<Name, AllocError> {
-    Ok(Name::of(Vec::from_slice(alloc, text.as_bytes())?))
+    Ok(Name::copied(alloc, text.as_bytes())?)
 }
 
 /// The files with these names and texts.

@@ -39,7 +39,7 @@ fn out_of(rt: &impl Abort, alloc: Global, word: &str) -> Result<ToldOut, NoMemor
     assert!(rt; value.len() <= 4096);
     let value = match value.parse::<i64>() {
         Ok(n) => Value::Int(n),
-        Err(_) => Value::Text(Txt::of(Vec::from_slice(alloc, value.as_bytes())?)),
+        Err(_) => Value::Text(Txt::of(Vec::from_slice(alloc, value.as_bytes())?)?),
     };
     Ok(ToldOut {
         port: Name::copied(alloc, name.as_bytes())?,

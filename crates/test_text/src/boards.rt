@@ -96,7 +96,7 @@ fn cells_are_in_order(rt: HostRuntime) -> Result<(), NoMemory> {
 /// The slot of a name that stands after its scope, as `3 a`.
 fn found_slot(alloc: Global, slots: &Slots, text: &str) -> Result<String, NoMemory> {
     let (scope, key) = text.split_once(' ').unwrap_or(("", ""));
-    let name = Name::of(Vec::from_slice(alloc, key.as_bytes())?);
+    let name = Name::copied(alloc, key.as_bytes())?;
     let found = slot(slots, scope.parse::<u32>().unwrap_or(9), &name);
     Ok(format!(in alloc; "{found:?}")?)
 }
@@ -174,7 +174,7 @@ fn put_both(alloc: Global, board: &mut Board) -> Result<String, NoMemory>
     requires { length board.old ≡ 6 }
 {
     board.put_int(1, 5);
-    board.put_text(4, Txt::of(Vec::from_slice(alloc, b"on")?));
+    board.put_text(4, Txt::of(Vec::from_slice(alloc, b"on")?)?);
     let mut told = String::new(alloc);
     for slot in 0..6 {
         told.push_str(format!(in alloc; "{:?} ", board.get(slot))?.as_str())?;

@@ -271,7 +271,7 @@ fn value_of(alloc: Global, text: &str) -> Result<Value, NoMemory> {
     }
     match text.parse::<i64>() {
         Ok(n) => Ok(Value::Int(n)),
-        Err(_) => Ok(Value::Text(Txt::of(Vec::from_slice(alloc, text.as_bytes())?))),
+        Err(_) => Ok(Value::Text(Txt::of(Vec::from_slice(alloc, text.as_bytes())?)?)),
     }
 }
 

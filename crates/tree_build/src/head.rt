@@ -1,4 +1,4 @@
-ghost use Rattle.std.specs.Prelude.{◌≡◌, IfOk, IsUtf8, length};
+ghost use Rattle.std.specs.Prelude.{◌≡◌, IfOk, length};
 ghost use Rattle.spec_tree_file.specs.Models.{attributes_of, children_of, name_of};
 ghost use Rattle.spec_tree_file.specs.Heads.{compact_head, explicit_head, head_of, id_or_empty, is_explicit, is_kept, is_leaf_name, plain_head};
 
@@ -37,43 +37,35 @@ fn is_kept(name: &[u8]) -> bool
 }
 
 /// A node of this kind and ID.
-fn plain_head(alloc: Global, kind: Kind, id: &[u8]) -> Result<Option<Head>, NoMemory>
-    requires { IsUtf8 id.now }
-    ensures { IfOk result (λ head. head ≡ Some (plain_head kind id.now)) }
+fn plain_head(kind: Kind, id: Name) -> Head
+    ensures { result ≡ plain_head kind id }
 {
-    Ok(Some(Head {
+    Head {
         kind,
-        id: Name::copied(alloc, id)?,
+        id,
         form: Form::Plain,
-    }))
+    }
 }
 
 /// The node of this ID that an element of this name writes. None where it may not.
-fn explicit_head(
-    alloc: Global,
-    name: &[u8],
-    childless: bool,
-    id: &[u8],
-) -> Result<Option<Head>, NoMemory>
-    requires { IsUtf8 id.now }
-    ensures { IfOk result (λ head. head ≡ explicit_head name.now childless id.now) }
+fn explicit_head(name: &[u8], childless: bool, id: Name) -> Option<Head>
+    ensures { result ≡ explicit_head name.now childless id }
 {
-    match kind_named(id) {
-        Some(kind) if writes(name, class_of(kind)) => plain_head(alloc, kind, id),
-        None if is_leaf_name(name) && childless => plain_head(alloc, Kind::Leaf, id),
-        _ => Ok(None),
+    match kind_named(id.list()) {
+        Some(kind) if writes(name, class_of(kind)) => Some(plain_head(kind, id)),
+        None if is_leaf_name(name) && childless => Some(plain_head(Kind::Leaf, id)),
+        _ => None,
     }
 }
 
 /// The node that an element is by its own name. None where it is none.
-fn compact_head(alloc: Global, childless: bool, name: &[u8]) -> Result<Option<Head>, NoMemory>
-    requires { IsUtf8 name.now }
-    ensures { IfOk result (λ head. head ≡ compact_head childless name.now) }
+fn compact_head(childless: bool, name: Name) -> Option<Head>
+    ensures { result ≡ compact_head childless name }
 {
-    match kind_named(name) {
-        Some(kind) => plain_head(alloc, kind, name),
-        None if !is_kept(name) && childless => plain_head(alloc, Kind::Leaf, name),
-        _ => Ok(None),
+    match kind_named(name.list()) {
+        Some(kind) => Some(plain_head(kind, name)),
+        None if !is_kept(name.list()) && childless => Some(plain_head(Kind::Leaf, name)),
+        _ => None,
     }
 }
 
@@ -83,7 +75,7 @@ pub fn id_or_empty(alloc: Global, attributes: &[(Name, Name)]) -> Result<Name, N
 {
     match attribute(attributes, b"ID") {
         Some(id) => id.copy(alloc),
-        None => Ok(Name::of(Vec::new(alloc))),
+        None => Ok(Name::empty()),
     }
 }
 
@@ -104,10 +96,14 @@ pub fn head_of(alloc: Global, version: Version, element: &Element) -> Result<Opt
         }));
     }
     if !is_explicit(name) {
-        return compact_head(alloc, childless, id_read(version, name));
+        let id = id_read(alloc, version, &element.name)?;
+        return Ok(compact_head(childless, id));
     }
     match attribute(attributes, b"ID") {
-        Some(id) => explicit_head(alloc, name, childless, id_read(version, id.list())),
+        Some(id) => {
+            let id = id_read(alloc, version, id)?;
+            Ok(explicit_head(name, childless, id))
+        }
         None => Ok(None),
     }
 }

@@ -22,16 +22,15 @@ fn with_port(
     uid: u32,
     mut ports: Vec<Port>,
     range: Range,
-    name: &[u8],
+    name: &Name,
     text: &[u8],
 ) -> Result<Vec<Port>, Stop<BuildFault>>
-    requires name { IsUtf8 name.now }
-    requires text { IsUtf8 text.now }
+    requires { IsUtf8 text.now }
     ensures { GivesList result (with_port uid ports.items range name.now text.now) }
 {
-    match value(alloc, range, name, text)? {
+    match value(alloc, range, name.list(), text)? {
         Some(value) => {
-            let name = Name::copied(alloc, name)?;
+            let name = name.copy(alloc)?;
             ports.push(Port { name, value })?;
             Ok(ports)
         }
@@ -50,13 +49,12 @@ fn with_attribute(
 ) -> Result<Vec<Port>, Stop<BuildFault>>
     ensures { GivesList result (with_attribute uid with_code (rules_seen rules.entry) ports.items attribute.now) }
 {
-    let (key, text) = attribute;
-    let name = key.list();
-    if !is_port(with_code, name) {
+    let (name, text) = attribute;
+    if !is_port(with_code, name.list()) {
         return Ok(ports);
     }
-    match range_of(rules, key) {
-        Some(range) if name_fits(rules, name) => {
+    match range_of(rules, name) {
+        Some(range) if name_fits(rules, name.list()) => {
             with_port(alloc, uid, ports, range, name, text.list())
         }
         _ => Err(Stop::Fault(BuildFault::BadLiteral { uid })),
@@ -96,7 +94,10 @@ fn with_rule(
         return Ok(ports);
     }
     match rule.default {
-        Some(text) => with_port(alloc, uid, ports, rule.range, name, text.as_bytes()),
+        Some(text) => {
+            let name = Name::copied(alloc, name)?;
+            with_port(alloc, uid, ports, rule.range, &name, text.as_bytes())
+        }
         None => Err(Stop::Fault(BuildFault::BadLiteral { uid })),
     }
 }
@@ -127,12 +128,11 @@ fn with_modelled(
 ) -> Result<Vec<Port>, Stop<BuildFault>>
     ensures { GivesList result (with_modelled uid attributes.now ports.items port.now) }
 {
-    let name = port.name.list();
-    if attributes.has(name) {
+    if attributes.has(port.name.list()) {
         return Ok(ports);
     }
     match &port.fallback {
-        Some(text) => with_port(alloc, uid, ports, Range::AnyValue, name, text.list()),
+        Some(text) => with_port(alloc, uid, ports, Range::AnyValue, &port.name, text.list()),
         None => Ok(ports),
     }
 }

@@ -45,7 +45,7 @@ fn literal(alloc: Global, range: Range, text: &[u8]) -> Result<Option<PortValue>
     match int(text) {
         Some(n) if int_fits(range, n) => Ok(Some(PortValue::Lit(Value::Int(n)))),
         None if text_fits(range, text) => {
-            let text = Txt::of(Vec::from_slice(alloc, text)?);
+            let text = Txt::of(Vec::from_slice(alloc, text)?)?;
             Ok(Some(PortValue::Lit(Value::Text(text))))
         }
         _ => Ok(None),

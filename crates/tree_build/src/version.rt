@@ -1,9 +1,10 @@
-ghost use Rattle.std.specs.Prelude.{◌≡◌, IsUtf8};
+ghost use Rattle.std.specs.Prelude.{◌≡◌, IfOk};
 ghost use Rattle.std.specs.Option.{option_copied};
 ghost use Rattle.spec_tree_file.specs.Versions.{id_read, subtree_form, version_in};
 
-use base_texts::Name;
+use base_texts::{Name, NoMemory};
 use spec_tree_file::{Form, Version};
+use std::alloc::Global;
 
 /// The version of a file of this format: 3 where none is written. None where the format is neither `3` nor `4`.
 pub fn version_in(format: Option<&Name>) -> Option<Version>
@@ -35,13 +36,13 @@ pub fn subtree_form(version: Version, name: &[u8]) -> Option<Form>
 }
 
 /// The ID as it is read: version 3 has another name for SequenceWithMemory.
-pub fn id_read<'a>(version: Version, id: &'a [u8]) -> &'a [u8]
-    requires { IsUtf8 id.now }
-    ensures is { result.now ≡ id_read version id.now }
-    ensures utf8 { IsUtf8 result.now }
+pub fn id_read(alloc: Global, version: Version, id: &Name) -> Result<Name, NoMemory>
+    ensures { IfOk result (λ read. read ≡ id_read version id.now) }
 {
     match version {
-        Version::Three if id == b"SequenceStar".as_slice() => b"SequenceWithMemory",
-        _ => id,
+        Version::Three if id.list() == b"SequenceStar".as_slice() => {
+            Name::copied(alloc, b"SequenceWithMemory")
+        }
+        _ => id.copy(alloc),
     }
 }

@@ -140,7 +140,7 @@ fn decode_references(alloc: Global, value: &[u8]) -> Result<Name, NoMemory>
         let (plain, marked) = rest.split_at(plain_len(rest));
         said.extend_from_slice(plain)?;
         let Some((_, following)) = marked.split_first() else {
-            return Ok(Name::of(said));
+            return Name::of(said);
         };
         match reference_at(following) {
             Some((c, len)) => {

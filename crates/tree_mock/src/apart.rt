@@ -43,7 +43,7 @@ fn joined(alloc: Global, first: &Name, second: &Name) -> Result<Name, NoMemory>
 {
     let mut both = Vec::from_slice(alloc, first.list())?;
     both.extend_from_slice(second.list())?;
-    Ok(Name::of(both))
+    Name::of(both)
 }
 
 /// What the paths of the children of a node begin with, where its own begins with this text.
@@ -239,7 +239,7 @@ fn apart(
 pub fn told_apart(alloc: Global, rules: &Rules, tree: &Tree) -> Result<Tree, NoMemory>
     ensures { IfOk result (λ apart. apart ≡ told_apart rules.now tree.now) }
 {
-    let top = Name::of(Vec::new(alloc));
+    let top = Name::empty();
     let mut found = Vec::new(alloc);
     add_openings(alloc, &tree.term, &top, &mut found)?;
     let part = apart(alloc, rules, found.as_slice(), &tree.term, &top)?;

@@ -7,5 +7,5 @@ use std::alloc::Global;
 pub fn name_of(alloc: Global, text: &str) -> Result<Name, NoMemory>
     ensures { IfOk result (λ name. name ≡ text.now) }
 {
-    Ok(Name::of(Vec::from_slice(alloc, text.as_bytes())?))
+    Name::copied(alloc, text.as_bytes())
 }

@@ -77,7 +77,7 @@ fn value_of(alloc: Global, value: &Written) -> Result<Value, NoMemory>
 {
     match value {
         Written::Number(number) => Ok(Value::Int(number.int().unwrap_or(0))),
-        Written::Text(text) => Ok(Value::Text(Txt::of(Vec::from_slice(alloc, text.list())?))),
+        Written::Text(text) => Ok(Value::Text(Txt::of(Vec::from_slice(alloc, text.list())?)?)),
     }
 }
 

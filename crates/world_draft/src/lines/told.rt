@@ -20,7 +20,7 @@ fn quoted(alloc: Global, text: &[u8]) -> Result<Option<(Written, &[u8])>, NoMemo
 {
     match text_to_quote(alloc, text)? {
         Some((bytes, rest)) => match str::from_utf8(bytes.as_slice()) {
-            Ok(_) => Ok(Some((Written::Text(Name::of(bytes)), rest))),
+            Ok(_) => Ok(Some((Written::Text(Name::of(bytes)?), rest))),
             Err(_) => Ok(None),
         },
         None => Ok(None),

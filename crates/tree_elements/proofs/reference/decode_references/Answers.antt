@@ -1,6 +1,7 @@
 use Rattle.std.proofs.Common.{◌≡◌, ℕ, List, Some, None, [], ◌∷◌, ◌++◌, drop, subst, ap, sym, ◌∙◌}
 use Rattle.std.proofs.lemmas.Str.{IsUtf8-append}
 use Rattle.std.specs.Char.{encode_utf8}
+use Rattle.std.specs.Prelude.{IfOk}
 use Rattle.std.specs.Str.{IsUtf8}
 use Rattle.spec_tree_file.specs.References.{decoded, reference_of}
 use Rattle.tree_elements.proofs.Cuts.{cut_following}
@@ -15,8 +16,10 @@ of-requires c =
 pub returns-in_default : goal.returns-in_default
 returns-in_default c =
     let cut = plain_cut c.parts.rest.now c.split_at.result.0.now c.split_at.result.1.now c.plain_len.result c.split_at.ensures.front c.split_at.ensures.back c.plain_len.ensures.value in
-    c.of.ensures ∙ c.in_ok-extend_from_slice.ensures.items
-    ∙ last_part c.parts.said.items c.parts.rest.now c.split_at.result.0.now c.split_at.result.1.now (decoded c.args.value.now) cut c.in_default.ensures.cases c.parts.invariant.value
+    subst (λ (text : List ℕ). IfOk c.of.result (λ name. name ≡ text))
+    (c.in_ok-extend_from_slice.ensures.items
+    ∙ last_part c.parts.said.items c.parts.rest.now c.split_at.result.0.now c.split_at.result.1.now (decoded c.args.value.now) cut c.in_default.ensures.cases c.parts.invariant.value)
+    c.of.ensures
 
 pub split_at-requires-in-Some-reference_at : goal.split_at-requires-in-Some-reference_at
 split_at-requires-in-Some-reference_at c =
