@@ -11,3 +11,4 @@ mod rows;
 mod serving;
 
 pub use files::serve_files;
+pub use rows::told_world;

@@ -11,10 +11,16 @@ use Rattle.spec_run.specs.Ports.{given_by}
 use Rattle.spec_tree.specs.declared.term.PortValue.{PortValue}
 use Rattle.spec_tree.specs.declared.term.PortValue.TheVariants.{Lit, Key}
 use Rattle.spec_tree.specs.Boards.{port_of}
+use Rattle.spec_world.specs.declared.world.Event.{Event}
 use Rattle.spec_session.specs.declared.label.Label.{Label}
 use Rattle.spec_session.specs.Labels.{labels}
 use Rattle.spec_session.specs.Sessions.{Sitting}
 use Rattle.host_session.specs.Numbered.{numbered}
+
+-- the moment of the next of these events
+abbrev pub next_moment : List Event → Option ℕ
+next_moment [] = None
+next_moment (e ∷ later) = Some e.at
 
 -- the blackboard of a runner; one that is not there has no entries
 abbrev pub board_by : Option Runner → List (Option Value)

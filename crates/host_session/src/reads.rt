@@ -68,7 +68,7 @@ impl Session {
     ghost use Rattle.std.specs.Prelude.{◌<◌, [], count_by, length};
     ghost use Rattle.spec_run.specs.Joins.{is_leaf};
     ghost use Rattle.spec_session.specs.Labels.{labels};
-    ghost use Rattle.host_session.specs.Reads.{board_of, entry_of, inputs_of, port_value, status_of};
+    ghost use Rattle.host_session.specs.Reads.{board_of, entry_of, inputs_of, next_moment, port_value, status_of};
 
     /// Lends the block of the last event: its header, what happened, and the facts and entries that changed.
     pub fn block(&self) -> &Block
@@ -135,6 +135,13 @@ impl Session {
         ensures { result ≡ self.now.state.last }
     {
         self.runs.last
+    }
+
+    /// The moment of the next of the world's own events, in milliseconds; none where all were made.
+    pub fn next_at(&self) -> Option<u64>
+        ensures { result ≡ next_moment self.now.own }
+    {
+        Some(self.own.front()?.at)
     }
 
     /// Lends the values of the facts, by their number.

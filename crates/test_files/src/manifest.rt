@@ -10,7 +10,7 @@ use tree_manifest::{KnownModel, manifest_of, model};
 /// A name of this text.
 fn name(alloc: Global, text: &str) -> Result<Name, AllocError> {
     let bytes = Vec::from_slice(alloc, text.as_bytes())?;
-    Ok(Name::of(bytes))
+    Name::of(bytes)
 }
 
 /// The text of a name.

@@ -14,6 +14,7 @@ mod tree;
 mod word;
 
 pub use block::{write_block, write_changes, write_header, write_line, write_notes};
+pub use line::put_long;
 pub use names::{Names, names_of, no_names};
 pub use put::{empty_line, put_bytes, put_number, put_quoted, put_signed};
 pub use stop::TextStop;

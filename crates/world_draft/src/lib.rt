@@ -15,9 +15,9 @@ mod telling;
 
 pub use draft::Draft;
 pub use lines::{
-    Head, WrittenOut, WrittenPart, content, cut, head_in, int, is, is_ignored, is_line, is_name,
-    ms, name_of, names_of, numeric, one_of, outs_in, parts, parts_in, step, trimmed, uid,
-    without_rest, words,
+    Head, WrittenOut, WrittenPart, after_gap, content, cut, head_in, int, is, is_apart, is_ignored,
+    is_line, is_name, ms, name_of, names_of, numeric, one_of, outs_in, parts, parts_in, step,
+    text_to_quote, trimmed, uid, without_rest, words,
 };
 pub use reading::Reading;
 pub use rounds::{Part, parts_within};

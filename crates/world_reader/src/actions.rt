@@ -17,7 +17,7 @@ use std::alloc::{AllocError, Global};
 use world_draft::{Reading, cut, head_in, int, is, is_name, ms, name_of, numeric};
 
 /// The comparison that the word names. None where it names none.
-fn comparison(word: &[u8]) -> Option<Cmp>
+pub fn comparison(word: &[u8]) -> Option<Cmp>
     ensures { result ≡ comparison_in word.now }
 {
     if is(word, "==") {

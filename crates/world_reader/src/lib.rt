@@ -12,6 +12,7 @@ mod rounds;
 mod tellings;
 mod unique;
 
+pub use actions::comparison;
 pub use forms::read_text;
 pub use read::{read_script, read_world};
 pub use unique::{read_worlds_are_valid, worlds_read_one_way};
