@@ -92,6 +92,8 @@ def of_tree(command: Command, words: str) -> List[str]:
         return []
     if words == "TooLong":
         return too_long(source.name, source) if len(source.data) > MOST_BYTES else []
+    if words.startswith("NoLeaf "):
+        return [f"{source.name}: error: {TREE['NoLeaf'].wrong} ({words}): {TREE['NoLeaf'].right}"]
     try:
         open_file(read_file(source, command.main))
     except Finding as finding:

@@ -41,6 +41,7 @@ TREE: Dict[str, Kind] = {
     "BadScript": Kind("a script is refused", "the language of scripts is in docs/semantics.md"),
     "TooManyKeys": Kind("the tree names too many keys", "at most 4,096, each opening of a tree counted"),
     "TooMuchWork": Kind("one tick may make too many visits", "at most 100,000"),
+    "NoLeaf": Kind("no leaf of the tree has an ID that is listed", "`bt check` prints the tree with the IDs of its leaves"),
 }
 
 SCRIPT: Dict[str, Kind] = {

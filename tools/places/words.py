@@ -17,16 +17,21 @@ class Form:
     needed: Tuple[str, ...] = ()
     ranges: Dict[str, Tuple[int, int]] = field(default_factory=dict)
     more: Tuple[str, ...] = ()
+    many: Tuple[str, ...] = ()
 
     def named(self, rest: List[str]) -> Tuple[str, ...]:
-        """What the words after the command name, before the first option."""
+        """What the words after the command name, before the first option. `many` is named by each of them that is left."""
         count = len(self.operands)
+        if self.many:
+            left = next((place for place, word in enumerate(rest[count:]) if word in self.options), len(rest[count:]))
+            return self.operands + self.many * left
         return self.operands + (self.more if rest[count:] and rest[count] not in self.options else ())
 
     def usage(self, name: str) -> str:
         """The command as a line."""
         options = [said(option) if option in self.needed else f"[{said(option)}]" for option in self.options]
-        return " ".join(["bt", name, *self.operands, *(f"[{it}]" for it in self.more), *options])
+        many = [word for it in self.many for word in (it, f"{it}..")]
+        return " ".join(["bt", name, *self.operands, *(f"[{it}]" for it in self.more), *many, *options])
 
 
 VALUES = {"--main": "ID", "--ticks": "N", "--expand": "N", "--period": "MS"}
@@ -48,6 +53,7 @@ COMMANDS: Dict[str, Form] = {
     "live": Form(("TREE", "WORLD"), ("--ticks", "--main"), ("--ticks",), {"--ticks": (1, 100_000)}),
     "check": Form(("TREE",), ("--main", "--strict")),
     "dead": Form(("TREE",), ("--main",)),
+    "exclusive": Form(("TREE",), ("--main",), many=("ID",)),
     "serve": Form(("TREE",), ("--main",), more=("WORLD",)),
     "load": Form(("N",), ranges={"N": (1, 1_000)}),
     "plan": PLANNING,
@@ -103,6 +109,8 @@ def wrong(words: List[str]) -> Optional[str]:
     if form.operands == ("N",) and not in_range(form, "N", rest[0]):
         return out_of_range(name, form, "N", rest[0])
     count = len(form.named(rest))
+    if form.many and count == len(form.operands):
+        return f"{name}: {form.many[0]} is missing"
     problem = wrong_options(name, form, rest[count:])
     early = [word for word in rest[:count] if word in form.options]
     return f"{name}: {early[0]} comes after the files" if problem is not None and early else problem

@@ -1,2 +1,3 @@
 pub mod AboutCourses
 pub mod AboutPlanning
+pub mod Pairs

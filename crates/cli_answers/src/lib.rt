@@ -7,4 +7,4 @@ mod printing;
 
 pub use courses::join_and_run;
 pub use planning::plan_and_print;
-pub use printing::{print_ground, print_made, print_tree};
+pub use printing::{print_exclusive, print_ground, print_made, print_tree};

@@ -2,9 +2,11 @@
 //! ground file stands for.
 
 mod dead_nodes;
+mod exclusive;
 mod grounding;
 mod nodes;
 mod printing;
 
+pub use exclusive::print_exclusive;
 pub use grounding::print_ground;
 pub use printing::{print_made, print_tree};

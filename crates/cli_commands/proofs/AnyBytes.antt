@@ -1,7 +1,7 @@
 -- What words were answered, of any bytes: where a read gave that a file is too long, of bytes that are.
 use Rattle.std.proofs.Common.{◌≡◌, ℕ, ◌≤◌, List, [], ◌∷◌, inl, inr, Option, Some, None, length, refl, sym, subst}
 use Rattle.spec_program.specs.declared.exit.Exit.{Exit}
-use Rattle.spec_program.specs.Words.{Command, Tick, Live, Load, Check, Dead, Plan, Mock, MockPrint, Ground, GroundPlan}
+use Rattle.spec_program.specs.Words.{Command, Tick, Live, Load, Check, Dead, Exclusive, Plan, Mock, MockPrint, Ground, GroundPlan}
 use Rattle.spec_program.specs.declared.course.Course.TheVariants as course
 use Rattle.spec_program.specs.declared.print.Print.TheVariants as print
 use Rattle.spec_tree.specs.Limits.{most_file_bytes}
@@ -17,12 +17,13 @@ use Rattle.spec_program.specs.Output.{AreUncalled}
 use Rattle.spec_program.specs.Answered.{AnsweredAfter, AreTold, WordsAnswered}
 use Rattle.cli_commands.specs.Answering.{CommandAnswered, FilesAnswered}
 use Rattle.spec_program.specs.Files.{Contents, Named, tree_alone, tree_and_rules, tree_and_world, tree_world_rules, world_alone}
+use Rattle.spec_program.specs.Exclusives.{Exclusives}
 use Rattle.spec_program.specs.Gives.{Beginning, BeginsNothing, Giving, Mocks, Prints, PrintsMade, RunsOn}
 use Rattle.spec_program.specs.Grounds.{GroundBegins, GroundPlans, Grounds}
 use Rattle.spec_program.specs.Jobs.{FilesBegin, FilesGive, files_of}
 use Rattle.spec_program.specs.Plans.{Begins, Plans}
 use Rattle.spec_program.specs.Reads.{AllRead, AreRead, IsLong, NamedFile, Reading, ReadsEnd, StoppedAt, WordsUnread, in_order}
-use Rattle.cli_commands.proofs.Files.{LongAlone, LongLast, LongRules, LongTree, LongWorld, alone, holding, long_made, long_made_rules, long_mock, long_mock_world, long_print, long_rules, long_run, long_world, no_bytes, uncalled_begin}
+use Rattle.cli_commands.proofs.Files.{LongAlone, LongLast, LongRules, LongTree, LongWorld, alone, holding, long_exclusive, long_made, long_made_rules, long_mock, long_mock_world, long_print, long_rules, long_run, long_world, no_bytes, uncalled_begin}
 use Rattle.cli_commands.proofs.Grounds.{long_ground, long_ground_plan}
 use Rattle.cli_commands.proofs.Plans.{long_plan}
 use Rattle.cli_refusals.proofs.AboutLent.Moments.{at_any}
@@ -129,6 +130,7 @@ module _ {Shelf : Type 0} (read_gives : Reading Shelf) (holds : Option (List ℕ
   command_long (Load leaves) read = absurd read
   command_long (Check t main) read = tree_alone_long (Prints print.Whole main) BeginsNothing t (long_print print.Whole main) read
   command_long (Dead t main) read = tree_alone_long (Prints print.Dead main) BeginsNothing t (long_print print.Dead main) read
+  command_long (Exclusive t ids main) read = tree_alone_long (Exclusives ids main) BeginsNothing t (long_exclusive ids main) read
   command_long (Plan w expand ticks period) read = alone_long (Plans (limits_of expand ticks period)) (Begins (limits_of expand ticks period)) w (long_plan (limits_of expand ticks period)) read
   command_long (Mock t w rules main) read = three_long (Mocks main) BeginsNothing t w rules (long_mock main) (long_mock_world main) (long_rules main) read
   command_long (MockPrint t rules main) read = tree_rules_long (PrintsMade main) BeginsNothing t rules (long_made main) (long_made_rules main) read

@@ -4,7 +4,7 @@ use Rattle.std.specs.Prelude.{IfSome, MatchOption}
 use Rattle.std.proofs.lemmas.Grind.{common_steps}
 use Rattle.spec_program.specs.declared.exit.Exit.{Exit}
 use Rattle.spec_program.specs.declared.exit.Exit.TheVariants as exit
-use Rattle.spec_program.specs.Words.{Command, Tick, Live, Load, Check, Dead, Plan, Mock, MockPrint, Ground, GroundPlan}
+use Rattle.spec_program.specs.Words.{Command, Tick, Live, Load, Check, Dead, Exclusive, Plan, Mock, MockPrint, Ground, GroundPlan}
 use Rattle.spec_output.specs.LoadTexts.{tree_text, world_text}
 use Rattle.spec_tree.specs.declared.term.Tree.{Tree}
 use Rattle.spec_world.specs.declared.world.World.{World}
@@ -36,6 +36,7 @@ use Rattle.spec_program.specs.Gives.{CourseGives, Giving, MadeGives, MockGives, 
 use Rattle.cli_commands.specs.Standing.{StandingGives}
 use Rattle.spec_program.specs.Courses.{Given, given}
 use Rattle.cli_answers.specs.Courses.Joined.{JoinGives}
+use Rattle.spec_program.specs.Exclusives.{ExclusiveGives, Exclusives, exclusive_output}
 use Rattle.spec_program.specs.Printed.{print_made, print_output}
 use Rattle.spec_outside.specs.declared.shelf_fault.ShelfFault.{ShelfFault}
 use Rattle.spec_outside.specs.declared.shelf_fault.ShelfFault.TheVariants as shelf
@@ -197,6 +198,9 @@ long_rules main files moments drivers st sw long =
 pub long_print : (print : Print) (main : Option (List ℕ)) → LongTree (Prints print main)
 long_print print main files moments drivers long = match_true (is_too_long files.tree) _ _ (long_is files.tree long) refl
 
+pub long_exclusive : (ids : List (List ℕ)) (main : Option (List ℕ)) → LongTree (Exclusives ids main)
+long_exclusive ids main files moments drivers long = match_true (is_too_long files.tree) _ _ (long_is files.tree long) refl
+
 -- .. of a tree file and a rules file
 abbrev pub LongLast : Giving → Type 0
 LongLast Gives = (files : Contents) (moments : Moments) (drivers : List DriverState) → length files.tree ≤ most_file_bytes → most_file_bytes < length files.rules → Gives files moments drivers (too_long file.Rules)
@@ -298,6 +302,24 @@ module _ (print : Print) (main : Option (List ℕ)) (bytes : List ℕ) (short : 
       at_any a.clock (λ moments. Ends (PrintGives print main bytes) AreUncalled (Ok exit) a (side written faults a.clock a.drivers))
       (λ moments. inl (print_output print (Ok t), print_gives print main bytes (Ok t) short reads, printed a.clock a.drivers a.drivers (λ place. refl)))
 
+-- the bytes of a tree file that is not too long, of whose tree it is printed which leaves with these IDs may be held together
+module _ (ids : List (List ℕ)) (main : Option (List ℕ)) (bytes : List ℕ) (short : length bytes ≤ most_file_bytes) where
+  abbrev pub Met : Ending
+  Met moments drivers output = ExclusiveGives ids main bytes output
+
+  met_gives : (r : Result Tree TreeFault) → TreeReads main bytes r → ExclusiveGives ids main bytes (exclusive_output ids r)
+  met_gives r reads = match_false (is_too_long bytes) _ _ (short_is bytes short) (r, reads, refl)
+
+  pub met_stopped : (stopped : Stop TreeFault) (a : Side) → ReadsAs (Err stopped) main bytes → EndsAt Met AreUncalled (Err (stopped_as refusal.Tree stopped)) a a
+  met_stopped (stop.Fault f) a reads = refused_ends Met AreUncalled (refusal.Tree f) a (λ moments. met_gives (Err f) reads)
+  met_stopped stop.NoMemory a reads = refused_ends Met AreUncalled refusal.NoMemory a (λ moments. tt)
+
+  pub met_printed : (t : Tree) (exit : Exit) (written : Option (List ℕ)) (faults : ℕ) (a : Side) → ReadsAs (Ok t) main bytes → Printed (exclusive_output ids (Ok t)) exit a.written a.faults written faults
+      → EndsAt Met AreUncalled (Ok exit) a (side written faults a.clock a.drivers)
+  met_printed t exit written faults a reads printed =
+      at_any a.clock (λ moments. Ends (ExclusiveGives ids main bytes) AreUncalled (Ok exit) a (side written faults a.clock a.drivers))
+      (λ moments. inl (exclusive_output ids (Ok t), met_gives (Ok t) reads, printed a.clock a.drivers a.drivers (λ place. refl)))
+
 -- the bytes of a tree file and of a rules file that are not too long, of which is printed what the rules make of the tree
 module _ (main : Option (List ℕ)) (tree rules : List ℕ) (st : length tree ≤ most_file_bytes) (sr : length rules ≤ most_file_bytes) where
   abbrev pub Made : Ending
@@ -346,6 +368,7 @@ uncalled_begin (Live t w rounds main) files old new same = same
 uncalled_begin (Load leaves) files old new same = same
 uncalled_begin (Check t main) files old new same = same
 uncalled_begin (Dead t main) files old new same = same
+uncalled_begin (Exclusive t ids main) files old new same = same
 uncalled_begin (Plan w expand ticks period) files old new same = inl same
 uncalled_begin (Mock t w rules main) files old new same = same
 uncalled_begin (MockPrint t rules main) files old new same = same

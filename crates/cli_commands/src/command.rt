@@ -15,6 +15,7 @@ ghost use Rattle.cli_refusals.specs.Ends.{EndsAt};
 ghost use Rattle.cli_refusals.specs.Lent.Lent.{Stays, seen};
 ghost use Rattle.cli_commands.specs.Named.{contents_of};
 ghost use Rattle.spec_program.specs.Grounds.{GroundGives, GroundPlanBegins, GroundPlanGives};
+ghost use Rattle.spec_program.specs.Exclusives.{ExclusiveGives};
 ghost use Rattle.spec_program.specs.Jobs.{FilesBegin, FilesGive};
 ghost use Rattle.spec_program.specs.Output.{AreUncalled};
 ghost use Rattle.spec_program.specs.Gives.{CourseGives, MadeGives, PrintGives, ScriptMocks, mocked};
@@ -27,7 +28,7 @@ use crate::mocking::{mock_tree, mock_tree_apart};
 use crate::reading::{FilesRead, read_files};
 use base_outside::{Clock, Shelf, Sink};
 use base_texts::Name;
-use cli_answers::{join_and_run, plan_and_print, print_ground, print_made, print_tree};
+use cli_answers::{join_and_run, plan_and_print, print_exclusive, print_ground, print_made, print_tree};
 use cli_refusals::{Outside, Refusal, write_refusal};
 use cli_words::{Command, read_command};
 use run_driver::Drivers;
@@ -121,6 +122,28 @@ fn print_file<S: Shelf, K: Sink, C: Clock, D: Drivers>(
 {
     let tree = parse_tree(alloc, tree, main)?;
     let exit = print_tree(alloc, &tree, print, outside.out);
+    drop(tree);
+    Ok(exit)
+}
+
+/// Prints which leaves with these IDs may be held together, of the tree of these bytes of a tree file.
+fn exclusive_file<S: Shelf, K: Sink, C: Clock, D: Drivers>(
+    alloc: Global,
+    tree: &[u8],
+    ids: &[Name],
+    main: Option<&Name>,
+    outside: &mut Outside<S, K, C, D>,
+) -> Result<Exit, Refusal>
+    requires tree { length tree.now ≤ most_file_bytes }
+    requires quiet { NothingHeld (D.states outside.old.drivers.now) }
+    ensures ends { EndsAt (λ moments drivers. ExclusiveGives ids.now (option_copied main.entry) tree.now) AreUncalled result
+        (seen K.written K.faults C.moments D.states outside.old)
+        (seen K.written K.faults C.moments D.states outside.new) }
+    ensures unread { outside.new.shelf.now ≡ outside.old.shelf.now }
+    ensures stays { Stays S.faults K.faults D.states outside.old outside.new }
+{
+    let tree = parse_tree(alloc, tree, main)?;
+    let exit = print_exclusive(alloc, &tree, ids, outside.out);
     drop(tree);
     Ok(exit)
 }
@@ -325,6 +348,7 @@ fn answer<S: Shelf, K: Sink, C: Clock, D: Drivers>(
         Command::Load { leaves } => make_and_run(alloc, leaves, outside),
         Command::Check { main, .. } => print_file(alloc, tree, main, Print::Whole, outside),
         Command::Dead { main, .. } => print_file(alloc, tree, main, Print::Dead, outside),
+        Command::Exclusive { ids, main, .. } => exclusive_file(alloc, tree, ids, main, outside),
         Command::Plan {
             expand,
             ticks,

@@ -36,7 +36,9 @@ fn names_of(command: Command) -> (Option<&Name>, Option<&Name>, Option<&Name>)
             (Some(tree), Some(world), None)
         }
         Command::Load { .. } => (None, None, None),
-        Command::Check { tree, .. } | Command::Dead { tree, .. } => (Some(tree), None, None),
+        Command::Check { tree, .. }
+        | Command::Dead { tree, .. }
+        | Command::Exclusive { tree, .. } => (Some(tree), None, None),
         Command::Plan { world, .. }
         | Command::Ground { world }
         | Command::GroundPlan { world, .. } => { (None, Some(world), None) }

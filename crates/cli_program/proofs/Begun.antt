@@ -4,7 +4,7 @@ use Rattle.std.specs.Prelude.{option_map}
 use Rattle.spec_run.specs.declared.join_fault.JoinFault.{JoinFault}
 use Rattle.spec_program.specs.declared.exit.Exit.{Exit}
 use Rattle.spec_program.specs.declared.exit.Exit.TheVariants as exit
-use Rattle.spec_program.specs.Words.{Command, Tick, Live, Load, Check, Dead, Plan, Mock, MockPrint, Ground, GroundPlan}
+use Rattle.spec_program.specs.Words.{Command, Tick, Live, Load, Check, Dead, Exclusive, Plan, Mock, MockPrint, Ground, GroundPlan}
 use Rattle.spec_output.specs.LoadTexts.{tree_text, world_text}
 use Rattle.run_loop.proofs.Preparing.{run_same}
 use Rattle.spec_run.specs.Served.{roster_after_run}
@@ -38,6 +38,9 @@ use Rattle.spec_program.specs.Jobs.{FilesBegin, FilesGive}
 use Rattle.spec_program.specs.Output.{AreUncalled, Asked, Never, Output, Times, UpToFault, line_of}
 use Rattle.spec_program.specs.Courses.{Given, given, joined_output, run_output}
 use Rattle.spec_run.specs.Joins.{lack_of}
+use Rattle.spec_exclusive.specs.declared.pair.Pair.{Pair}
+use Rattle.spec_exclusive.specs.Pairs.{meeting_pairs, missing_leaf}
+use Rattle.spec_program.specs.Exclusives.{ExclusiveGives, exclusive_output, leaves_output, pairs_output}
 use Rattle.spec_program.specs.Gives.{MadeGives, MockGives, PrintGives, RunGives, Standing, TreeGives, is_too_long, itself, made_output, mocked, mocked_apart, standing_output, world_output}
 use Rattle.spec_program.specs.Refused.{ground_refused, too_long, tree_refused, unread, world_refused}
 use Rattle.spec_program.specs.Plans.{FileBegun, PlanGives, ReadPlans}
@@ -95,6 +98,21 @@ module _ (Q : Output → Type 0) (line : (bytes : List ℕ) (exit : Exit) → Q 
 
   of_print : (print : Print) (main : Option (List ℕ)) (tree : List ℕ) (o : Output) → PrintGives print main tree o → Q o
   of_print print main tree o p = by_length (is_too_long tree) o (too_long file.Tree) _ (line _ exit.Tree) p (λ p1. same_output o (print_output print p1.0) p1.2 (printed print p1.0))
+
+  met : (pairs : List Pair) → Q (pairs_output pairs)
+  met [] = line _ exit.Done
+  met (pair ∷ pairs) = line _ exit.NotExclusive
+
+  met_by : (missing : Option (List ℕ)) (ids : List (List ℕ)) (tree : Tree) → Q (leaves_output missing ids tree)
+  met_by (Some id) ids tree = line _ exit.Tree
+  met_by None ids tree = met (meeting_pairs ids tree)
+
+  met_read : (ids : List (List ℕ)) (read : Result Tree TreeFault) → Q (exclusive_output ids read)
+  met_read ids (Ok tree) = met_by (missing_leaf ids tree) ids tree
+  met_read ids (Err fault) = line _ exit.Tree
+
+  of_exclusive : (ids : List (List ℕ)) (main : Option (List ℕ)) (tree : List ℕ) (o : Output) → ExclusiveGives ids main tree o → Q o
+  of_exclusive ids main tree o p = by_length (is_too_long tree) o (too_long file.Tree) _ (line _ exit.Tree) p (λ p1. same_output o (exclusive_output ids p1.0) p1.2 (met_read ids p1.0))
 
   made : (r : Result Tree MockFault) → Q (print_made r)
   made (Ok tree) = line _ exit.Done
@@ -228,6 +246,7 @@ module _ (cuts : CutLaw) (worlds : WorldLaw) where
   uncalled_is_within (Load leaves) files moments old new o p same = within_run old new same (course.Load leaves) None (tree_text leaves) (world_text leaves) moments o p
   uncalled_is_within (Check t main) files moments old new o p same = of_print (Within old new) (λ bytes exit. same) print.Whole main files.tree o p
   uncalled_is_within (Dead t main) files moments old new o p same = of_print (Within old new) (λ bytes exit. same) print.Dead main files.tree o p
+  uncalled_is_within (Exclusive t ids main) files moments old new o p same = of_exclusive (Within old new) (λ bytes exit. same) ids main files.tree o p
   uncalled_is_within (Plan w expand ticks period) files moments old new o p same =
       of_plan (Within old new) (λ bytes exit. same) (limits_of expand ticks period) files.world old o
       (λ described planned. within_plan described (limits_of expand ticks period) old new o (not_planned old new same described (limits_of expand ticks period)) planned) p
@@ -245,6 +264,7 @@ module _ (cuts : CutLaw) (worlds : WorldLaw) where
   begun_is_within (Load leaves) files moments old new o p same = uncalled_is_within (Load leaves) files moments old new o p same
   begun_is_within (Check t main) files moments old new o p same = uncalled_is_within (Check t main) files moments old new o p same
   begun_is_within (Dead t main) files moments old new o p same = uncalled_is_within (Dead t main) files moments old new o p same
+  begun_is_within (Exclusive t ids main) files moments old new o p same = uncalled_is_within (Exclusive t ids main) files moments old new o p same
   begun_is_within (Plan w expand ticks period) files moments old new o p (inl same) = uncalled_is_within (Plan w expand ticks period) files moments old new o p same
   begun_is_within (Plan w expand ticks period) files moments old new o p (inr b) = within_file (limits_of expand ticks period) files.world old new o p b
   begun_is_within (Mock t w rules main) files moments old new o p same = uncalled_is_within (Mock t w rules main) files moments old new o p same
@@ -279,6 +299,7 @@ gave_within o exit.Write a b p = p.1.drivers
 gave_within o exit.Memory a b p = p.drivers
 gave_within o exit.Rules a b p = left_within o.drivers a.drivers b.drivers p.2
 gave_within o exit.Request a b p = left_within o.drivers a.drivers b.drivers p.2
+gave_within o exit.NotExclusive a b p = left_within o.drivers a.drivers b.drivers p.2
 
 unread_uncalled : (f : File) (old new : List DriverState) → Within old new (unread f) → AreUncalled old new
 unread_uncalled file.Tree old new p = p
@@ -306,6 +327,7 @@ gave_unasked o exit.Read a b never p = subst (λ (k : Asked). ClockLeft k a.cloc
 gave_unasked o exit.Write a b never p = subst (λ (k : Asked). ClockWithin k a.clock b.clock) never p.1.clock
 gave_unasked o exit.Rules a b never p = subst (λ (k : Asked). ClockLeft k a.clock b.clock) never p.3
 gave_unasked o exit.Request a b never p = subst (λ (k : Asked). ClockLeft k a.clock b.clock) never p.3
+gave_unasked o exit.NotExclusive a b never p = subst (λ (k : Asked). ClockLeft k a.clock b.clock) never p.3
 gave_unasked o exit.Memory a b never p = subst (λ (k : Asked). ClockWithin k a.clock b.clock) never p.clock
 
 pub unread_unasked : (f : File) → IsUnasked (unread f)
@@ -320,6 +342,7 @@ files_unasked (Live t w rounds main) files moments drivers o other p = absurd ot
 files_unasked (Load leaves) files moments drivers o other p = of_run IsUnasked (λ bytes exit. refl) None (tree_text leaves) (world_text leaves) (given (course.Load leaves) moments drivers) o (λ t w. refl) p
 files_unasked (Check t main) files moments drivers o other p = of_print IsUnasked (λ bytes exit. refl) print.Whole main files.tree o p
 files_unasked (Dead t main) files moments drivers o other p = of_print IsUnasked (λ bytes exit. refl) print.Dead main files.tree o p
+files_unasked (Exclusive t ids main) files moments drivers o other p = of_exclusive IsUnasked (λ bytes exit. refl) ids main files.tree o p
 files_unasked (Plan w expand ticks period) files moments drivers o other p =
     of_plan IsUnasked (λ bytes exit. refl) (limits_of expand ticks period) files.world drivers o (λ described planned. ap (λ (z : Output). z.asked) planned.is) p
 files_unasked (Mock t w rules main) files moments drivers o other p = of_mock IsUnasked (λ bytes exit. refl) main files.tree files.world files.rules (given course.Script moments drivers) o (λ t w. refl) p

@@ -43,12 +43,15 @@ use Rattle.spec_program.specs.Grounds.{GroundBegins, GroundGives, GroundPlanGive
 use Rattle.spec_program.specs.Printed.{ground_output, print_made, print_output}
 use Rattle.spec_program.specs.Jobs.{CommandGives, FilesBegin, FilesGive, files_of, held, held_by}
 use Rattle.spec_program.specs.Output.{AreUncalled, Output}
+use Rattle.spec_exclusive.specs.declared.pair.Pair.{Pair}
+use Rattle.spec_exclusive.specs.Pairs.{meeting_pairs, missing_leaf}
+use Rattle.spec_program.specs.Exclusives.{ExclusiveGives, exclusive_output, leaves_output, pairs_output}
 use Rattle.spec_program.specs.Gives.{Beginning, Giving, MadeGives, MockGives, OrTooLong, PrintGives, ReadGives, RunGives, Standing, TreeGives, WorldGives, is_too_long, itself, made_output, mocked, mocked_apart, standing_output, world_output}
 use Rattle.spec_program.specs.Courses.{Given, given, joined_output, run_exit}
 use Rattle.spec_run.specs.Joins.{lack_of}
 use Rattle.spec_program.specs.Refused.{ground_refused, join_refused, no_goal, too_long, tree_refused, unread, words_refused, world_refused}
 use Rattle.spec_program.specs.TreeFiles.{TreeReads, built, element_read, with_models}
-use Rattle.spec_program.specs.Words.{Command, Tick, Live, Load, Check, Dead, Plan, Mock, MockPrint, Ground, GroundPlan}
+use Rattle.spec_program.specs.Words.{Command, Tick, Live, Load, Check, Dead, Exclusive, Plan, Mock, MockPrint, Ground, GroundPlan}
 use Rattle.spec_program.specs.declared.file.File.{File}
 use Rattle.spec_program.specs.declared.file.File.TheVariants as file
 use Rattle.spec_run.specs.declared.join_fault.JoinFault.{JoinFault}
@@ -113,6 +116,10 @@ one_print : OneReading → (print : Print) (main : Option (List ℕ)) (tree : Li
 one_print one print main tree x y p q =
     one_if (is_too_long tree) x y (too_long file.Tree) _ _ p q (λ p1 q1. p1.2 ∙ ap (print_output print) (one_tree one main tree p1.0 q1.0 p1.1 q1.1) ∙ sym q1.2)
 
+one_exclusive : OneReading → (ids : List (List ℕ)) (main : Option (List ℕ)) (tree : List ℕ) (x y : Output) → ExclusiveGives ids main tree x → ExclusiveGives ids main tree y → x ≡ y
+one_exclusive one ids main tree x y p q =
+    one_if (is_too_long tree) x y (too_long file.Tree) _ _ p q (λ p1 q1. p1.2 ∙ ap (exclusive_output ids) (one_tree one main tree p1.0 q1.0 p1.1 q1.1) ∙ sym q1.2)
+
 one_print_made : OneReading → (main : Option (List ℕ)) (tree rules : List ℕ) (x y : Output) → MadeGives main tree rules x → MadeGives main tree rules y → x ≡ y
 one_print_made one main tree rules x y p q =
     one_if (is_too_long tree) x y (too_long file.Tree) _ _ p q (λ p1 q1. one_if (is_too_long rules) x y (too_long file.Rules) _ _ p1 q1
@@ -166,6 +173,7 @@ one_files one (Live t w rounds main) files moments drivers x y p q = one_run one
 one_files one (Load leaves) files moments drivers x y p q = one_run one None (tree_text leaves) (world_text leaves) (given (course.Load leaves) moments drivers) x y p q
 one_files one (Check t main) files moments drivers x y p q = one_print one print.Whole main files.tree x y p q
 one_files one (Dead t main) files moments drivers x y p q = one_print one print.Dead main files.tree x y p q
+one_files one (Exclusive t ids main) files moments drivers x y p q = one_exclusive one ids main files.tree x y p q
 one_files one (Plan w expand ticks period) files moments drivers x y p q = one_plan one (limits_of expand ticks period) files.world drivers x y p q
 one_files one (Ground w) files moments drivers x y p q = one_ground files.world x y p q
 one_files one (GroundPlan w expand ticks period) files moments drivers x y p q = one_ground_plan one (limits_of expand ticks period) files.world drivers x y p q
@@ -185,6 +193,7 @@ whole_given o exit.Write a b i p = absurd i
 whole_given o exit.Memory a b i p = absurd i
 whole_given o exit.Rules a b i p = p
 whole_given o exit.Request a b i p = p
+whole_given o exit.NotExclusive a b i p = p
 
 -- where the sink's count did not rise, the output is whole or memory ran out
 whole_or_memory : (o : Output) (result : Exit) (a b : Side) → (Rose a.faults b.faults → ⊥) → Gave o result a b → (result ≡ exit.Memory) ⊎ IsWhole o result a b
@@ -199,6 +208,7 @@ whole_or_memory o exit.Write a b n p = absurd (n p.0)
 whole_or_memory o exit.Memory a b n p = inl refl
 whole_or_memory o exit.Rules a b n p = inr p
 whole_or_memory o exit.Request a b n p = inr p
+whole_or_memory o exit.NotExclusive a b n p = inr p
 
 -- where a write failed the sink's count rose
 write_gave : (o : Output) (result : Exit) (a b : Side) → result ≡ exit.Write → Gave o result a b → Rose a.faults b.faults
@@ -230,6 +240,7 @@ of_own (Live t w rounds main) files moments drivers o p = p
 of_own (Load leaves) files moments drivers o p = p
 of_own (Check t main) files moments drivers o p = p
 of_own (Dead t main) files moments drivers o p = p
+of_own (Exclusive t ids main) files moments drivers o p = p
 of_own (Plan w expand ticks period) files moments drivers o p = p
 of_own (Mock t w rules main) files moments drivers o p = p
 of_own (MockPrint t rules main) files moments drivers o p = p
@@ -242,6 +253,7 @@ from_own (Live t w rounds main) files moments drivers o p = p
 from_own (Load leaves) files moments drivers o p = p
 from_own (Check t main) files moments drivers o p = p
 from_own (Dead t main) files moments drivers o p = p
+from_own (Exclusive t ids main) files moments drivers o p = p
 from_own (Plan w expand ticks period) files moments drivers o p = p
 from_own (Mock t w rules main) files moments drivers o p = p
 from_own (MockPrint t rules main) files moments drivers o p = p
@@ -286,6 +298,7 @@ needed (Live t w rounds main) files result a b (Some told) x = subst (λ (moment
 needed (Load leaves) files result a b clock x = x.holds
 needed (Check t main) files result a b clock x = x.holds
 needed (Dead t main) files result a b clock x = x.holds
+needed (Exclusive t ids main) files result a b clock x = x.holds
 needed (Plan w expand ticks period) files result a b clock x = x.holds
 needed (Mock t w rules main) files result a b clock x = x.holds
 needed (MockPrint t rules main) files result a b clock x = x.holds
@@ -362,6 +375,7 @@ IsOfFiles exit.World = Unit {0}
 IsOfFiles exit.Fault = Unit {0}
 IsOfFiles exit.NoPlan = Unit {0}
 IsOfFiles exit.Rules = Unit {0}
+IsOfFiles exit.NotExclusive = Unit {0}
 IsOfFiles _ = ⊥
 
 same_exit : (o z : Output) → o ≡ z → IsOfFiles z.exit → IsOfFiles o.exit
@@ -408,6 +422,22 @@ exit_of_mock main tree world rules g o p =
 exit_of_print : (print : Print) (main : Option (List ℕ)) (tree : List ℕ) (o : Output) → PrintGives print main tree o → IsOfFiles o.exit
 exit_of_print print main tree o p =
     exit_of_long (is_too_long tree) o (too_long file.Tree) _ tt p (λ p1. same_exit o (print_output print p1.0) p1.2 (exit_of_printed print p1.0))
+
+exit_of_pairs : (pairs : List Pair) → IsOfFiles (pairs_output pairs).exit
+exit_of_pairs [] = tt
+exit_of_pairs (pair ∷ pairs) = tt
+
+exit_of_leaves : (missing : Option (List ℕ)) (ids : List (List ℕ)) (tree : Tree) → IsOfFiles (leaves_output missing ids tree).exit
+exit_of_leaves (Some id) ids tree = tt
+exit_of_leaves None ids tree = exit_of_pairs (meeting_pairs ids tree)
+
+exit_of_read_leaves : (ids : List (List ℕ)) (r : Result Tree TreeFault) → IsOfFiles (exclusive_output ids r).exit
+exit_of_read_leaves ids (Ok tree) = exit_of_leaves (missing_leaf ids tree) ids tree
+exit_of_read_leaves ids (Err f) = tt
+
+exit_of_exclusive : (ids : List (List ℕ)) (main : Option (List ℕ)) (tree : List ℕ) (o : Output) → ExclusiveGives ids main tree o → IsOfFiles o.exit
+exit_of_exclusive ids main tree o p =
+    exit_of_long (is_too_long tree) o (too_long file.Tree) _ tt p (λ p1. same_exit o (exclusive_output ids p1.0) p1.2 (exit_of_read_leaves ids p1.0))
 
 exit_of_made : (r : Result Tree MockFault) → IsOfFiles (print_made r).exit
 exit_of_made (Ok tree) = tt
@@ -466,6 +496,7 @@ exit_of_files (Live t w rounds main) files moments drivers o p = exit_of_run mai
 exit_of_files (Load leaves) files moments drivers o p = exit_of_run None (tree_text leaves) (world_text leaves) (given (course.Load leaves) moments drivers) o p
 exit_of_files (Check t main) files moments drivers o p = exit_of_print print.Whole main files.tree o p
 exit_of_files (Dead t main) files moments drivers o p = exit_of_print print.Dead main files.tree o p
+exit_of_files (Exclusive t ids main) files moments drivers o p = exit_of_exclusive ids main files.tree o p
 exit_of_files (Plan w expand ticks period) files moments drivers o p = exit_of_plan (limits_of expand ticks period) files.world drivers o p
 exit_of_files (Ground w) files moments drivers o p = exit_of_ground files.world o p
 exit_of_files (GroundPlan w expand ticks period) files moments drivers o p = exit_of_ground_plan (limits_of expand ticks period) files.world drivers o p
@@ -691,6 +722,7 @@ module _ (holds : Option (List ℕ → List ℕ)) (result : Exit) (shelf : Type 
   planned_done laws (Some (Load leaves)) answered = tt
   planned_done laws (Some (Check t main)) answered = tt
   planned_done laws (Some (Dead t main)) answered = tt
+  planned_done laws (Some (Exclusive t ids main)) answered = tt
   planned_done laws (Some (Mock t w rules main)) answered = tt
   planned_done laws (Some (MockPrint t rules main)) answered = tt
   planned_done laws (Some (Ground w)) answered = tt

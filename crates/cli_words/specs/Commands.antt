@@ -2,7 +2,7 @@
 use Rattle.std.specs.Prelude.{ℕ, ◌≤◌}
 use Rattle.std.specs.Option.{option_copied}
 use Rattle.spec_tree.specs.Limits.{most_leaves}
-use Rattle.spec_program.specs.Words.{Command, Tick, Live, Load, Check, Dead, Plan, Mock, MockPrint, Ground, GroundPlan}
+use Rattle.spec_program.specs.Words.{Command, Tick, Live, Load, Check, Dead, Exclusive, Plan, Mock, MockPrint, Ground, GroundPlan}
 use Rattle.cli_words.specs.declared.words.Command.{Command as Read}
 use Rattle.cli_words.specs.declared.words.Command.TheVariants as read
 
@@ -13,6 +13,7 @@ command_seen (read.Live tree world rounds main) = Live tree.now world.now rounds
 command_seen (read.Load leaves) = Load leaves
 command_seen (read.Check tree main) = Check tree.now (option_copied main)
 command_seen (read.Dead tree main) = Dead tree.now (option_copied main)
+command_seen (read.Exclusive tree ids main) = Exclusive tree.now ids.now (option_copied main)
 command_seen (read.Plan world expand ticks period) = Plan world.now expand ticks period
 command_seen (read.Mock tree world rules main) = Mock tree.now world.now rules.now (option_copied main)
 command_seen (read.MockPrint tree rules main) = MockPrint tree.now rules.now (option_copied main)

@@ -1,10 +1,10 @@
-ghost use Rattle.std.specs.Prelude.{◌≡◌, ◌≤◌, ◌↔◌, IfOk, IfSome, MatchOption, Some, None, codes};
+ghost use Rattle.std.specs.Prelude.{◌≡◌, ◌≤◌, ◌↔◌, IfOk, IfSome, MatchOption, Some, None, codes, drop, length, take};
 ghost use Rattle.std.specs.IoError.{error_kind};
 ghost use Rattle.std.specs.Option.{option_copied};
 ghost use Rattle.cli_words.specs.Commands.{AreLimits, IsInRange, command_seen};
 ghost use Rattle.cli_words.specs.Serving.{serve_seen};
 ghost use Rattle.spec_program.specs.Words as definition;
-ghost use Rattle.spec_program.specs.Words.{are_options, as_count, check_of, command_of, dead_of, ground_of, ground_plan_of, in_range, is_option, is_unset, limited_words, live_of, load_of, main_in, mock_of, mock_print_of, mock_run_of, number_or, plan_of, rounds_in, serve_of, tick_of, value_of, without_strict};
+ghost use Rattle.spec_program.specs.Words.{are_options, as_count, check_of, command_of, before_main, dead_of, exclusive_of, from_main, ground_of, ground_plan_of, in_range, is_option, is_unset, limited_words, live_of, load_of, main_in, mock_of, mock_print_of, mock_run_of, number_or, plan_of, rounds_in, serve_of, tick_of, value_of, without_strict};
 ghost use Rattle.spec_tree.specs.Limits.{most_leaves, most_rounds};
 ghost use Rattle.spec_tree.specs.Numbers.{int_in};
 
@@ -17,7 +17,7 @@ use std::io::ErrorKind;
 use std::{env, io};
 
 /// A command: the files that it names, how many rounds, and the ID of the main tree where it names
-/// one; how many leaves a load has; or the limits of a plan.
+/// one; the IDs of leaves; how many leaves a load has; or the limits of a plan.
 #[derive(Clone, Copy)]
 pub enum Command<'a> {
     /// `tick TREE WORLD [--main ID]`
@@ -47,6 +47,13 @@ pub enum Command<'a> {
     /// `dead TREE [--main ID]`
     Dead {
         tree: &'a Name,
+        main: Option<&'a Name>,
+    },
+    /// `exclusive TREE ID ID.. [--main ID]`
+    Exclusive {
+        tree: &'a Name,
+        /// One or more.
+        ids: &'a [Name],
         main: Option<&'a Name>,
     },
     /// `plan WORLD [--expand N] [--ticks N] [--period MS]`
@@ -281,6 +288,34 @@ fn read_dead<'a>(words: &'a [Name]) -> Option<Command<'a>>
     Some(Command::Dead { tree, main })
 }
 
+/// How many words stand before the first `--main`.
+fn words_before_main(words: &[Name]) -> usize
+    ensures within { result ≤ length words.now }
+    ensures before { take result words.now ≡ before_main words.now }
+    ensures following { drop result words.now ≡ from_main words.now }
+{
+    match words {
+        [word, rest @ ..] if word.list() != b"--main".as_slice() => 1 + words_before_main(rest),
+        _ => 0,
+    }
+}
+
+/// The command `exclusive` with these words after it.
+fn read_exclusive<'a>(words: &'a [Name]) -> Option<Command<'a>>
+    ensures command { MatchOption result (exclusive_of words.now ≡ None) (λ c. exclusive_of words.now ≡ Some (command_seen c)) }
+    ensures range { IfSome result (λ c. IsInRange (command_seen c)) }
+{
+    let [tree, words @ ..] = words else {
+        return None;
+    };
+    let (ids, options) = words.split_at(words_before_main(words));
+    if ids.is_empty() {
+        return None;
+    }
+    let main = main_in(options)?;
+    Some(Command::Exclusive { tree, ids, main })
+}
+
 /// A number in this range.
 fn in_range(number: Option<i64>, least: u32, most: u32) -> Option<u32>
     ensures number { result ≡ in_range least most number }
@@ -429,6 +464,8 @@ pub fn read_command<'a>(words: &'a [Name]) -> Option<Command<'a>>
         read_ground(words)
     } else if word.list() == b"gplan".as_slice() {
         read_ground_plan(words)
+    } else if word.list() == b"exclusive".as_slice() {
+        read_exclusive(words)
     } else {
         None
     }

@@ -1,11 +1,12 @@
 -- What each command is about: its files, and what they have for its output.
 use Rattle.std.specs.Prelude.{ℕ, ◌≡◌, List, [], Option, Some, None}
-use Rattle.spec_program.specs.Words.{Command, Tick, Live, Load, Check, Dead, Plan, Mock, MockPrint, Ground, GroundPlan}
+use Rattle.spec_program.specs.Words.{Command, Tick, Live, Load, Check, Dead, Exclusive, Plan, Mock, MockPrint, Ground, GroundPlan}
 use Rattle.spec_output.specs.LoadTexts.{tree_text, world_text}
 use Rattle.spec_run.specs.Drivers.{DriverState}
 use Rattle.spec_outside.specs.Moments.{Moments}
 use Rattle.spec_program.specs.declared.course.Course.TheVariants as course
 use Rattle.spec_program.specs.declared.print.Print.TheVariants as print
+use Rattle.spec_program.specs.Exclusives.{Exclusives}
 use Rattle.spec_program.specs.Files.{Contents, Named, no_files, tree_alone, tree_and_rules, tree_and_world, tree_world_rules, world_alone}
 use Rattle.spec_program.specs.Grounds.{GroundBegins, GroundPlans, Grounds}
 use Rattle.spec_program.specs.Gives.{Beginning, BeginsNothing, CourseGives, Giving, Mocks, Prints, PrintsMade, RunsOn}
@@ -32,6 +33,7 @@ job_of (Load leaves) = record {
 }
 job_of (Check tree main) = record { named = tree_alone tree; gives = Prints print.Whole main; begins = BeginsNothing }
 job_of (Dead tree main) = record { named = tree_alone tree; gives = Prints print.Dead main; begins = BeginsNothing }
+job_of (Exclusive tree ids main) = record { named = tree_alone tree; gives = Exclusives ids main; begins = BeginsNothing }
 job_of (Plan world expand ticks period) =
     let limits : Limits = record { expand = expand; ticks = ticks; period = period } in
     record { named = world_alone world; gives = Plans limits; begins = Begins limits }

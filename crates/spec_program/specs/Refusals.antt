@@ -69,6 +69,10 @@ build_words (build.BadScript uid f) = numbered (codes "BadScript") uid ++ codes 
 build_words build.TooManyKeys = codes "TooManyKeys"
 build_words build.TooMuchWork = codes "TooMuchWork"
 
+-- the words of an ID that no leaf of a tree has
+abbrev pub no_leaf_words : List ℕ → List ℕ
+no_leaf_words id = named (codes "NoLeaf") id
+
 -- the words of a tree file's fault
 abbrev pub tree_words : TreeFault → List ℕ
 tree_words (fault.Elements f) = element_words f

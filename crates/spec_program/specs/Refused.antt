@@ -1,10 +1,10 @@
 -- The output of each refusal, which is one line.
-use Rattle.std.specs.Prelude.{◌++◌, codes}
+use Rattle.std.specs.Prelude.{ℕ, List, ◌++◌, codes}
 use Rattle.spec_run.specs.declared.join_fault.JoinFault.{JoinFault}
 use Rattle.spec_program.specs.declared.file.File.{File}
 use Rattle.spec_program.specs.declared.tree_fault.TreeFault.{TreeFault}
 use Rattle.spec_world_file.specs.declared.ground_fault.GroundFault.{GroundFault}
-use Rattle.spec_program.specs.Refusals.{ground_words, join_words, rules_words, tree_words, world_words}
+use Rattle.spec_program.specs.Refusals.{ground_words, join_words, no_leaf_words, rules_words, tree_words, world_words}
 use Rattle.spec_tree_file.specs.declared.mock_fault.MockFault.{MockFault}
 use Rattle.spec_world_file.specs.declared.world_fault.WorldFault.{WorldFault}
 use Rattle.spec_program.specs.Output.{Output, refused}
@@ -28,6 +28,10 @@ too_long file.Rules = refused (codes "refused rules TooLong") exit.Rules
 
 abbrev pub tree_refused : TreeFault → Output
 tree_refused fault = refused (codes "refused tree " ++ tree_words fault) exit.Tree
+
+-- no leaf of the tree has an ID that is listed
+abbrev pub no_leaf : List ℕ → Output
+no_leaf id = refused (codes "refused tree " ++ no_leaf_words id) exit.Tree
 
 abbrev pub world_refused : WorldFault → Output
 world_refused fault = refused (codes "refused world " ++ world_words fault) exit.World

@@ -36,6 +36,7 @@ pub data Command : Type 0 where
   Load : (leaves : ℕ) → Command
   Check : (tree : List ℕ) (main : Option (List ℕ)) → Command
   Dead : (tree : List ℕ) (main : Option (List ℕ)) → Command
+  Exclusive : (tree : List ℕ) (ids : List (List ℕ)) (main : Option (List ℕ)) → Command
   Plan : (world : List ℕ) (expand ticks period : ℕ) → Command
   Mock : (tree world rules : List ℕ) (main : Option (List ℕ)) → Command
   MockPrint : (tree rules : List ℕ) (main : Option (List ℕ)) → Command
@@ -108,6 +109,25 @@ abbrev pub dead_of : List (List ℕ) → Option Command
 dead_of (tree ∷ options) = option_map (Dead tree) (main_in options)
 dead_of _ = None
 
+-- the words before the first `--main`, and those from it on
+abbrev pub before_main : List (List ℕ) → List (List ℕ)
+before_main [] = []
+before_main (word ∷ words) = if bytes_eq word (codes "--main") then [] else word ∷ before_main words
+
+abbrev pub from_main : List (List ℕ) → List (List ℕ)
+from_main [] = []
+from_main (word ∷ words) = if bytes_eq word (codes "--main") then word ∷ words else from_main words
+
+-- a tree, some IDs and the main tree
+abbrev pub exclusive_with : List ℕ → List (List ℕ) → Option (Option (List ℕ)) → Option Command
+exclusive_with tree (id ∷ ids) (Some main) = Some (Exclusive tree (id ∷ ids) main)
+exclusive_with tree _ _ = None
+
+-- `TREE ID ID.. [--main ID]`: one ID or more, up to the first word `--main`
+abbrev pub exclusive_of : List (List ℕ) → Option Command
+exclusive_of (tree ∷ words) = exclusive_with tree (before_main words) (main_in (from_main words))
+exclusive_of _ = None
+
 -- what the options say of the limits of a plan
 abbrev pub expand_in : List (List ℕ) → Option ℕ
 expand_in options = number_or 100 0 120 (value_of (codes "--expand") options)
@@ -160,7 +180,7 @@ abbrev pub commands : List (List ℕ × (List (List ℕ) → Option Command))
 commands =
     (codes "tick", tick_of) ∷ (codes "live", live_of) ∷ (codes "load", load_of) ∷ (codes "check", check_of) ∷ (codes "dead", dead_of)
     ∷ (codes "plan", plan_of) ∷ (codes "mock", mock_of)
-    ∷ (codes "ground", ground_of) ∷ (codes "gplan", ground_plan_of) ∷ []
+    ∷ (codes "ground", ground_of) ∷ (codes "gplan", ground_plan_of) ∷ (codes "exclusive", exclusive_of) ∷ []
 
 abbrev pub command_among : List (List ℕ × (List (List ℕ) → Option Command)) → List ℕ → List (List ℕ) → Option Command
 command_among [] word words = None
@@ -211,3 +231,4 @@ status_of exit.Write = 8
 status_of exit.Memory = 9
 status_of exit.Rules = 10
 status_of exit.Request = 11
+status_of exit.NotExclusive = 14

@@ -26,6 +26,8 @@ pub enum Exit {
     Rules,
     /// A line of a host is refused.
     Request,
+    /// Two leaves with the listed IDs may be held together.
+    NotExclusive,
 }
 
 impl Exit {
@@ -45,6 +47,7 @@ impl Exit {
             Exit::Memory => 9,
             Exit::Rules => 10,
             Exit::Request => 11,
+            Exit::NotExclusive => 14,
         }
     }
 }

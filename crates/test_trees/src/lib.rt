@@ -4,6 +4,8 @@
 #[cfg(test)]
 mod dead;
 #[cfg(test)]
+mod exclusive;
+#[cfg(test)]
 mod grounds;
 #[cfg(test)]
 mod limits;

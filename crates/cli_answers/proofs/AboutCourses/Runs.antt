@@ -331,6 +331,7 @@ gave_from bytes end left asked exit.Read a b drivers same x = x
 gave_from bytes end left asked exit.Write a b drivers same x = (x.0, record { written = x.1.written; drivers = uncalled_before drivers a.drivers b.drivers left same x.1.drivers; clock = x.1.clock })
 gave_from bytes end left asked exit.Rules a b drivers same x = x
 gave_from bytes end left asked exit.Request a b drivers same x = x
+gave_from bytes end left asked exit.NotExclusive a b drivers same x = x
 gave_from bytes end left asked exit.Memory a b drivers same x = record { written = x.written; drivers = uncalled_before drivers a.drivers b.drivers left same x.drivers; clock = x.clock }
 
 -- runs that were made for these drivers, which were then prepared

@@ -1,0 +1,13 @@
+use Rattle.std.proofs.lemmas.Result.{err_from_is_err_and}
+use Rattle.std.specs.Option.{option_copied}
+use Rattle.cli_commands.proofs.Files.{met_printed, met_stopped}
+use Rattle.cli_commands.proofs.command.exclusive_file.Goals as goal
+
+pub returns-in_err-tree-clause-ends : goal.returns-in_err-tree-clause-ends
+returns-in_err-tree-clause-ends g c =
+    let p = err_from_is_err_and c.from_residual.result c.from_residual.ensures.1 in
+    rw (p.1, p.2) (met_stopped c.args.ids.now (option_copied c.args.main) c.args.tree.now c.requires.tree c.in_err-tree.field-0.0 _ c.in_err-tree.ensures.reads)
+
+pub returns-clause-ends : goal.returns-clause-ends
+returns-clause-ends g c =
+    met_printed c.args.ids.now (option_copied c.args.main) c.args.tree.now c.requires.tree _ _ _ _ _ c.in_ok-tree.ensures.reads c.print_exclusive-exit.ensures.printed
