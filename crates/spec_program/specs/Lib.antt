@@ -1,6 +1,7 @@
 pub mod Answered
 pub mod Answers
 pub mod Courses
+pub mod Expecting
 pub mod Files
 pub mod Gives
 pub mod Grounds

@@ -26,6 +26,10 @@ pub enum Exit {
     Rules,
     /// A line of a host is refused.
     Request,
+    /// The file of expectations is refused.
+    Expect,
+    /// The run does not meet an expectation.
+    Unmet,
 }
 
 impl Exit {
@@ -45,6 +49,8 @@ impl Exit {
             Exit::Memory => 9,
             Exit::Rules => 10,
             Exit::Request => 11,
+            Exit::Expect => 12,
+            Exit::Unmet => 13,
         }
     }
 }
