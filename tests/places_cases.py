@@ -6,7 +6,7 @@ from typing import Tuple
 
 @dataclass(frozen=True)
 class Case:
-    """Files T, W and R, the program's words for them, its exit and output, and what must be said of them.
+    """Files T, W, R and E, the program's words for them, its exit and output, and what must be said of them.
 
     `place` is the front of the first line, as `T:3:7:`; each text of `said` stands somewhere. Where the program can't
     answer so by itself, `asked` is false and it is not asked."""
@@ -21,6 +21,7 @@ class Case:
     words: str = "check T"
     asked: bool = True
     rules: str = ""
+    expect: str = ""
 
 
 def nodes(text: str, head: str = 'BTCPP_format="4"') -> str:

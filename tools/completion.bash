@@ -29,7 +29,7 @@ _bt_words() {
     local place=$1 text first='' count=0 left=()
     for (( ; place < COMP_CWORD; place++)); do
         text=${COMP_WORDS[place]}
-        if [[ $text == @(--main|-o|--ticks|--expand|--period) ]]; then
+        if [[ $text == @(--main|-o|--ticks|--expand|--period|--expect) ]]; then
             ((place++))
         elif [[ $text != -* ]]; then
             first=${first:-$text}
@@ -39,6 +39,7 @@ _bt_words() {
     case ${COMP_WORDS[COMP_CWORD - 1]} in
         --main) _bt_trees "$first" ;;
         -o) _bt_files html ;;
+        --expect) _bt_files expect ;;
         --ticks | --expand | --period) ;;
         *)
             if [[ $word != -* && $count -lt ${#sorts[@]} ]]; then
@@ -79,6 +80,7 @@ _bt() {
             ground,WORLD | gplan,WORLD) sorts+=(ground) ;;
             *,WORLD | *,\[WORLD\]) sorts+=(world) ;;
             *,RULES) sorts+=('rules json') ;;
+            *,EXPECT) sorts+=(expect) ;;
             *,--* | *,\[--*)
                 text=${text#[}
                 options+=("${text%]}") ;;
@@ -88,13 +90,13 @@ _bt() {
 }
 
 _bt_names() {
-    local word=${COMP_WORDS[COMP_CWORD]} sorts=(xml world) options=(--main --trees --all)
+    local word=${COMP_WORDS[COMP_CWORD]} sorts=(xml world) options=(--main --mock --expect --trees --all)
     COMPREPLY=()
     _bt_words 1
 }
 
 _bt_view() {
-    local word=${COMP_WORDS[COMP_CWORD]} sorts=(xml world) options=(--main --plan -o)
+    local word=${COMP_WORDS[COMP_CWORD]} sorts=(xml world) options=(--main --plan --expect -o)
     COMPREPLY=()
     if [[ " ${COMP_WORDS[*]} " == *' --plan '* ]]; then
         sorts=(world) options=(--expand --ticks --period -o)

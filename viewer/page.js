@@ -90,6 +90,7 @@ class Page {
     this.reader = null;
     if (data.live) ({ run: this.whole, reader: this.reader } = Trace.begin(tree, world));
     else this.whole = tree && Trace.read(tree, world, data.trace ?? "");
+    if (this.whole) this.whole.expected = data.expected ?? [];
     this.other = data.other === undefined ? null : this.readOther(tree, world, data.other);
     this.source = null;
   }

@@ -283,7 +283,21 @@ class TimelineView {
     context.fillStyle = Dom.colours().line;
     context.fillRect(LABELS, top + ROW - 1, this.scroller.clientWidth - LABELS, 1);
     if (row.series) this.drawSeries(context, row.series, top);
+    else if (row.expectation) this.drawExpectation(context, row.expectation, top);
     else if (row.uid) this.drawNode(context, row, top);
+  }
+
+  /** The event with which an expectation was lost, or the last one. */
+  eventOfExpectation({ isMet, at }) {
+    const { run } = this;
+    return isMet ? Math.max(0, run.length - 1) : Math.min(Math.max(0, run.length - 1), Runs.countBelow(run.moments, at));
+  }
+
+  /** The mark of an expectation: at the end where it is met, and else where it was lost. */
+  drawExpectation(context, expectation, top) {
+    if (this.run.length === 0) return;
+    const x = LABELS + this.placeOf(this.eventOfExpectation(expectation)) - this.left;
+    drawMark(context, expectation.isMet ? "SUCCESS" : "FAILURE", x, top);
   }
 
   /** The lines of a node's changes that lie in the window, and the change before them. */
@@ -376,6 +390,7 @@ class TimelineView {
 
   labelOf(row) {
     if (row.title) return html("div", { class: "label title" }, row.title);
+    if (row.expectation) return this.expectationLabel(row.expectation);
     return row.series ? this.seriesLabel(row.series) : this.nodeLabel(row);
   }
 
@@ -384,6 +399,12 @@ class TimelineView {
     const { name, where } = Series.titleOf(this.run, series);
     return html("div", { class: "label series", title: `${name} ${where}` },
       html("span", { class: "label-name" }, name), html("span", { class: "label-value" }, value ?? "–"));
+  }
+
+  expectationLabel({ text, isMet, at }) {
+    const said = isMet ? "met" : `lost at ${Words.moment(at)}`;
+    return html("div", { class: "label series", title: `${text}: ${said}` },
+      Signs.badgeImage(isMet ? "SUCCESS" : "FAILURE"), html("span", { class: "label-name" }, text), html("span", { class: "label-value" }, said));
   }
 
   nodeLabel({ uid, runner, level, isGroup, isShut, within }) {
@@ -426,7 +447,7 @@ class TimelineView {
     const y = event.clientY - box.top;
     if (x < LABELS) return;
     const row = y > AXIS ? this.rows[Math.floor((y - AXIS + this.scroller.scrollTop) / ROW)] : null;
-    this.actions.go(this.eventNear(x - LABELS + this.left, row) + 1);
+    this.actions.go((row?.expectation ? this.eventOfExpectation(row.expectation) : this.eventNear(x - LABELS + this.left, row)) + 1);
     if (row?.uid) this.actions.select(row.uid, row.runner);
   }
 

@@ -1,8 +1,8 @@
-/** The rows of the time line: nodes, grouped by subtree, and the values of blackboards and facts. */
+/** The rows of the time line: expectations, nodes, grouped by subtree, and the values of blackboards and facts. */
 import * as Series from "./series.js";
 
 /**
- * The rows of a run. A row has the `uid` of a node and its `runner`, or a `series`, or only a `title`. One of a SubTree
+ * The rows of a run. A row has the `uid` of a node and its `runner`, or a `series`, or an `expectation`, or only a `title`. One of a SubTree
  * node is the head of a group, which may be shut; `level` says in how many groups a row is.
  *
  * `choice` has what is shown: `nodes`, "leaves" or "all"; the `selected` node, which has a row in any case; whether the
@@ -11,6 +11,8 @@ import * as Series from "./series.js";
 function rowsOf(run, choice) {
   const rows = [];
   const facts = Series.seriesOf(run, 0);
+  const { expected = [] } = run;
+  if (expected.length > 0) rows.push({ title: "Expectations" }, ...expected.map((expectation) => ({ expectation })));
   for (let runner = 1; runner <= run.runners; runner++) {
     if (run.runners > 1) rows.push({ title: `Runner ${runner}` });
     rows.push(...nodeRows(run, runner, choice));

@@ -20,6 +20,8 @@ const EXITS = {
   9: "out of memory",
   10: "the mock rules are refused",
   11: "a line of the host is refused",
+  12: "the file of expectations is refused",
+  13: "an expectation is not met",
 };
 
 const grouped = new Intl.NumberFormat("en-US");

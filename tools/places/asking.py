@@ -7,6 +7,7 @@ import sys
 from typing import Dict, List, Optional
 
 from .escapes import escaped
+from .expects import pick_lines, read_expects
 from .explaining import explanation, told
 from .listing import join_lines, node_lines, tree_lines
 from .marks import Finding, read_marks
@@ -23,6 +24,7 @@ USAGE = """\
 ./names TREE [OPTIONS]            a line a node: uid, kind, ID, name, line, and the SubTree nodes round it
 ./names TREE [OPTIONS] < TRACE    the trace, with the name of each node after its line
 ./names TREE WORLD [OPTIONS]      leaves without rows, rows without leaves, and ports that do not meet
+./names TREE WORLD --expect EXPECT    which leaves each line of a file of expectations tells
 ./names --trees TREE              a line a tree of the file
 ./names --all TREE                what `bt check` says of each tree of the file as the main tree
 the options, in any order:
@@ -30,9 +32,9 @@ the options, in any order:
   --mock RULES    the nodes of the tree that these mock rules make
 """
 
-TREE_REFUSED, WORLD_REFUSED, RULES_REFUSED, WORDS, UNREAD, OTHER = 3, 4, 10, 2, 7, 1
+TREE_REFUSED, WORLD_REFUSED, RULES_REFUSED, EXPECT_REFUSED, WORDS, UNREAD, OTHER = 3, 4, 10, 12, 2, 7, 1
 
-OPTIONS = ("--main", "--mock")
+OPTIONS = ("--main", "--mock", "--expect")
 
 
 def file_of(name: str, too_long: int) -> Source:
@@ -102,6 +104,21 @@ def join(file: TreeFile, world: Source) -> int:
     return 0
 
 
+def tell_leaves(file: TreeFile, world: Source, expect: Source) -> int:
+    """Lists which leaves a file of expectations tells."""
+    try:
+        read = read_world(world)
+    except Finding as finding:
+        tell(told(world, finding))
+        return WORLD_REFUSED
+    try:
+        write(pick_lines(read_expects(expect, file, read)))
+    except Finding as finding:
+        tell(told(expect, finding))
+        return EXPECT_REFUSED
+    return 0
+
+
 def list_trees(source: Source) -> None:
     """Lists the trees of a file."""
     root = read_marks(source)
@@ -148,6 +165,8 @@ def about(source: Source, world: Optional[Source], options: Dict[str, str]) -> i
     file = opened(source, options.get("--main"))
     if "--mock" in options:
         file = by_rules(file, file_of(options["--mock"], RULES_REFUSED))
+    if world is not None and "--expect" in options:
+        return tell_leaves(file, world, file_of(options["--expect"], EXPECT_REFUSED))
     return name_nodes(file, "--mock" in options) if world is None else join(file, world)
 
 

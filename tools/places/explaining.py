@@ -5,6 +5,7 @@ from dataclasses import dataclass, field
 from typing import Dict, List, Optional
 
 from . import grounds
+from .expects import read_expects, unmet_lines
 from .faults import cause_said, explained, quenched
 from .marks import Finding
 from .mocks import mocked, rule_warnings
@@ -16,7 +17,7 @@ from .rows import lacking
 from .rules import Configuration, Rules, read_rules
 from .slots import check_sizes
 from .source import MISSING, MOST_BYTES, Source, beside, read, why_unreadable
-from .table import CAUSES, GROUND, RULES, TREE, WORLD
+from .table import CAUSES, EXPECT, GROUND, RULES, TREE, WORLD
 from .tellings import untold
 from .traces import MOST_OUTPUT, Faulted, faulted
 from .trees import TreeFile, read_file
@@ -46,6 +47,10 @@ def explanation(status: int, output: bytes, words: List[str]) -> List[str]:
         return of_world(command, refused(text, "refused world "))
     if status == 7:
         return of_read(command, refused(text, "refused read "))
+    if status == 12:
+        return of_expect(command, refused(text, "refused expect "))
+    if status == 13:
+        return of_unmet(command, text)
     if status == 10:
         return of_rules(command, refused(text, "refused rules "))
     if status in (5, 6) and command.name in ("plan", "gplan"):
@@ -72,7 +77,7 @@ def too_long(name: str, source: Source) -> List[str]:
 
 def of_read(command: Command, what: str) -> List[str]:
     """The lines for a file that could not be read."""
-    name = {"tree": command.tree, "world": command.world, "rules": command.rules}.get(what)
+    name = {"tree": command.tree, "world": command.world, "rules": command.rules, "expect": command.expect}.get(what)
     why = None if name is None else why_unreadable(name)
     if name is None or why is None:
         return []
@@ -82,7 +87,8 @@ def of_read(command: Command, what: str) -> List[str]:
         where = "--print comes before the files" if is_print else "options come after the files"
         helps = [f"the word {name} stands where the file's name is expected: {where}"]
         helps += [f"`bt {command.name.split()[0]} --help` tells the words of it"] if name in HELP else []
-    return [f"{name or repr(name)}: error: the {what} file can't be read: {why}"] + ["  help: " + text for text in helps]
+    what = "file of expectations" if what == "expect" else f"{what} file"
+    return [f"{name or repr(name)}: error: the {what} can't be read: {why}"] + ["  help: " + text for text in helps]
 
 
 def of_tree(command: Command, words: str) -> List[str]:
@@ -161,6 +167,30 @@ def of_rules(command: Command, words: str) -> List[str]:
     if kind in ("Json", "Form", "BadScript"):
         return []
     return [f"{source.name}: error: {RULES[kind].wrong} ({words}): {RULES[kind].right}"] + of_made(command, rules, words)
+
+
+def of_expect(command: Command, words: str) -> List[str]:
+    """The lines for a file of expectations that was refused."""
+    source = read(command.expect or "")
+    kind = words.split(" ")[0]
+    if source is None or kind not in EXPECT:
+        return []
+    if kind == "TooLong":
+        return too_long(source.name, source) if len(source.data) > MOST_BYTES else []
+    run = run_of(command)
+    if run is None:
+        return []
+    try:
+        read_expects(source, run.file, run.world)
+    except Finding as finding:
+        return told(source, finding) if finding.words == words else []
+    return []
+
+
+def of_unmet(command: Command, text: str) -> List[str]:
+    """The lines of a file of expectations that the run did not meet."""
+    source = read(command.expect or "")
+    return [] if source is None else unmet_lines(source, text)
 
 
 def of_made(command: Command, rules: Rules, words: str) -> List[str]:

@@ -91,6 +91,17 @@ RULES: Dict[str, Kind] = {
     "TooMuchWork": Kind("one tick of the tree that the rules make may make too many visits", "at most 100,000"),
 }
 
+EXPECT: Dict[str, Kind] = {
+    "TooLong": Kind("the file of expectations is too long", "a file has at most 1,048,576 bytes"),
+    "Header": Kind("the first line is not the header", "it is exactly `bt-expect 1`"),
+    "BadLine": Kind("the line has no form", "the forms are in docs/formats.md"),
+    "NoName": Kind("a name is no fact of the world", "an expression looks at facts alone"),
+    "NoLeaf": Kind("the tree has no such leaf", "leaves are told by their ID, or between quotes by their name or a pattern over their paths"),
+    "NoRunner": Kind("the world has no such runner", "runners are numbered from 1"),
+    "Range": Kind("a number is out of its range", "moments and counts go from 0 to 1000000000000"),
+    "TooMany": Kind("the file has too many expectations", "at most 1,000"),
+}
+
 CAUSES: Dict[str, Kind] = {
     "NoEntry": Kind("an entry has no value", "write it first, with `name := value`, by an output, or by a port of the SubTree"),
     "NoInput": Kind("an input is not there", "write the port at the node; where it names a key, write the entry first"),

@@ -59,6 +59,7 @@ COMMANDS: Dict[str, Form] = {
     "plan": PLANNING,
     "mock": Form(("TREE", "WORLD", "RULES"), ("--main",)),
     PRINTING: Form(("TREE", "RULES"), ("--main",)),
+    "expect": Form(("TREE", "WORLD", "EXPECT"), ("--main",)),
     "ground": Form(("WORLD",)),
     "gplan": Form(("WORLD",), PLANNING.options, ranges=PLANNING.ranges),
 }
@@ -74,6 +75,7 @@ class Command:
     rules: Optional[str]
     main: Optional[str]
     is_strict: bool = False
+    expect: Optional[str] = None
 
 
 def parted(words: List[str]) -> Tuple[str, List[str]]:
@@ -89,7 +91,8 @@ def command_of(words: List[str]) -> Optional[Command]:
         return None
     operands = dict(zip(COMMANDS[name].named(rest), rest))
     options = dict(options_in(rest[len(operands):]))
-    return Command(name, operands.get("TREE"), operands.get("WORLD"), operands.get("RULES"), options.get("--main"), "--strict" in options)
+    return Command(name, operands.get("TREE"), operands.get("WORLD"), operands.get("RULES"), options.get("--main"), "--strict" in options,
+                   operands.get("EXPECT"))
 
 
 def wrong(words: List[str]) -> Optional[str]:

@@ -5,6 +5,6 @@ mod courses;
 mod planning;
 mod printing;
 
-pub use courses::join_and_run;
+pub use courses::{join_and_expect, join_and_run};
 pub use planning::plan_and_print;
 pub use printing::{print_exclusive, print_ground, print_made, print_tree};

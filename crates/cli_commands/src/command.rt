@@ -14,6 +14,7 @@ ghost use Rattle.spec_outside.specs.Counts.{Rose};
 ghost use Rattle.cli_refusals.specs.Ends.{EndsAt};
 ghost use Rattle.cli_refusals.specs.Lent.Lent.{Stays, seen};
 ghost use Rattle.cli_commands.specs.Named.{contents_of};
+ghost use Rattle.spec_program.specs.Expecting.{ExpectGives};
 ghost use Rattle.spec_program.specs.Grounds.{GroundGives, GroundPlanBegins, GroundPlanGives};
 ghost use Rattle.spec_program.specs.Exclusives.{ExclusiveGives};
 ghost use Rattle.spec_program.specs.Jobs.{FilesBegin, FilesGive};
@@ -28,7 +29,9 @@ use crate::mocking::{mock_tree, mock_tree_apart};
 use crate::reading::{FilesRead, read_files};
 use base_outside::{Clock, Shelf, Sink};
 use base_texts::Name;
-use cli_answers::{join_and_run, plan_and_print, print_exclusive, print_ground, print_made, print_tree};
+use cli_answers::{
+    join_and_expect, join_and_run, plan_and_print, print_exclusive, print_ground, print_made, print_tree,
+};
 use cli_refusals::{Outside, Refusal, write_refusal};
 use cli_words::{Command, read_command};
 use run_driver::Drivers;
@@ -211,6 +214,41 @@ fn ground_file<S: Shelf, K: Sink, C: Clock, D: Drivers>(
     Ok(print_ground(&ground, outside.out))
 }
 
+/// Runs the tree of these bytes of a tree file in the world of these bytes of a world script, and tells of each expectation of
+/// these bytes of a file of expectations whether the run meets it.
+fn expect_files<S: Shelf, K: Sink, C: Clock, D: Drivers>(
+    alloc: Global,
+    tree: &[u8],
+    world: &[u8],
+    expect: &[u8],
+    main: Option<&Name>,
+    outside: &mut Outside<S, K, C, D>,
+) -> Result<Exit, Refusal>
+    requires tree { length tree.now ≤ most_file_bytes }
+    requires world { length world.now ≤ most_file_bytes }
+    requires expect { length expect.now ≤ most_file_bytes }
+    requires quiet { NothingHeld (D.states outside.old.drivers.now) }
+    ensures ends { EndsAt (ExpectGives (option_copied main.entry) tree.now world.now expect.now) AreUncalled result
+        (seen K.written K.faults C.moments D.states outside.old)
+        (seen K.written K.faults C.moments D.states outside.new) }
+    ensures unread { outside.new.shelf.now ≡ outside.old.shelf.now }
+    ensures stays { Stays S.faults K.faults D.states outside.old outside.new }
+{
+    let tree = parse_tree(alloc, tree, main)?;
+    match read_world(alloc, world) {
+        Ok(world) => {
+            let ended = join_and_expect(alloc, &tree, &world, expect, outside);
+            drop(world);
+            drop(tree);
+            ended
+        }
+        Err(stopped) => {
+            drop(tree);
+            Err(Refusal::from(stopped))
+        }
+    }
+}
+
 /// Runs what the rules of these bytes of a rules file make of a tree, in a world.
 fn run_mocked<S: Shelf, K: Sink, C: Clock, D: Drivers>(
     alloc: Global,
@@ -335,10 +373,11 @@ fn answer<S: Shelf, K: Sink, C: Clock, D: Drivers>(
     ensures unread { outside.new.shelf.now ≡ outside.old.shelf.now }
     ensures stays { Stays S.faults K.faults D.states outside.old outside.new }
 {
-    let (tree, world, rules) = (
+    let (tree, world, rules, expect) = (
         files.tree.as_slice(),
         files.world.as_slice(),
         files.rules.as_slice(),
+        files.expect.as_slice(),
     );
     match command {
         Command::Tick { main, .. } => run_files(alloc, tree, world, main, Course::Script, outside),
@@ -357,6 +396,7 @@ fn answer<S: Shelf, K: Sink, C: Clock, D: Drivers>(
         } => plan_file(alloc, world, &limits_of(expand, ticks, period), outside),
         Command::Mock { main, .. } => mock_files(alloc, tree, world, rules, main, outside),
         Command::MockPrint { main, .. } => print_mocked(alloc, tree, rules, main, outside),
+        Command::Expect { main, .. } => expect_files(alloc, tree, world, expect, main, outside),
         Command::Ground { .. } => ground_file(alloc, world, outside),
         Command::GroundPlan {
             expand,

@@ -3,7 +3,7 @@ ghost use Rattle.std.specs.Option.{option_copied};
 ghost use Rattle.cli_words.specs.Commands.{command_seen};
 ghost use Rattle.spec_outside.specs.Counts.{Rose};
 ghost use Rattle.spec_program.specs.Answered.{AreWithin};
-ghost use Rattle.cli_commands.specs.Named.{contents_of, named};
+ghost use Rattle.cli_commands.specs.Named.{contents_of, named, names_seen};
 ghost use Rattle.spec_program.specs.Jobs.{files_of};
 ghost use Rattle.spec_program.specs.Reads.{AllRead, AreRead, in_order};
 ghost use Rattle.cli_commands.specs.NamedReads.{AreStopped, IsUnreadIfNamed, WasRead, WasReadIfNamed};
@@ -24,31 +24,64 @@ pub struct FilesRead {
     pub tree: Vec<u8>,
     pub world: Vec<u8>,
     pub rules: Vec<u8>,
+    pub expect: Vec<u8>,
 }
 
-/// The names of the files that a command names: of a tree, of a world and of rules. A load names none,
+/// The names of the files that a command names.
+#[derive(Clone, Copy)]
+struct NamedFiles<'a> {
+    tree: Option<&'a Name>,
+    world: Option<&'a Name>,
+    rules: Option<&'a Name>,
+    expect: Option<&'a Name>,
+}
+
+/// These names.
+fn named<'a>(
+    tree: Option<&'a Name>,
+    world: Option<&'a Name>,
+    rules: Option<&'a Name>,
+    expect: Option<&'a Name>,
+) -> NamedFiles<'a>
+    ensures { names_seen result ≡ named (option_copied tree.entry) (option_copied world.entry) (option_copied rules.entry) (option_copied expect.entry) }
+{
+    NamedFiles {
+        tree,
+        world,
+        rules,
+        expect,
+    }
+}
+
+/// The names of the files that a command names: of a tree, of a world, of rules and of expectations. A load names none,
 /// since it makes both of its files.
-fn names_of(command: Command) -> (Option<&Name>, Option<&Name>, Option<&Name>)
-    ensures { named (option_copied result.0) (option_copied result.1) (option_copied result.2) ≡ files_of (command_seen command.entry) }
+fn names_of(command: Command) -> NamedFiles<'_>
+    ensures { names_seen result ≡ files_of (command_seen command.entry) }
 {
     match command {
+        Command::Load { .. } => named(None, None, None, None),
         Command::Tick { tree, world, .. } | Command::Live { tree, world, .. } => {
-            (Some(tree), Some(world), None)
+            named(Some(tree), Some(world), None, None)
         }
-        Command::Load { .. } => (None, None, None),
         Command::Check { tree, .. }
         | Command::Dead { tree, .. }
-        | Command::Exclusive { tree, .. } => (Some(tree), None, None),
+        | Command::Exclusive { tree, .. } => named(Some(tree), None, None, None),
         Command::Plan { world, .. }
         | Command::Ground { world }
-        | Command::GroundPlan { world, .. } => { (None, Some(world), None) }
+        | Command::GroundPlan { world, .. } => named(None, Some(world), None, None),
         Command::Mock {
             tree,
             world,
             rules,
             ..
-        } => (Some(tree), Some(world), Some(rules)),
-        Command::MockPrint { tree, rules, .. } => (Some(tree), None, Some(rules)),
+        } => named(Some(tree), Some(world), Some(rules), None),
+        Command::MockPrint { tree, rules, .. } => named(Some(tree), None, Some(rules), None),
+        Command::Expect {
+            tree,
+            world,
+            expect,
+            ..
+        } => named(Some(tree), Some(world), None, Some(expect)),
     }
 }
 
@@ -112,9 +145,15 @@ pub fn read_files<S: Shelf>(
     ensures holds { S.holds shelf.new ≡ S.holds shelf.old }
     ensures count { S.faults shelf.old ≤ S.faults shelf.new }
 {
-    let (tree, world, rules) = names_of(command);
-    let tree = read_named(alloc, File::Tree, tree, shelf)?;
-    let world = read_named(alloc, File::World, world, shelf)?;
-    let rules = read_named(alloc, File::Rules, rules, shelf)?;
-    Ok(FilesRead { tree, world, rules })
+    let names = names_of(command);
+    let tree = read_named(alloc, File::Tree, names.tree, shelf)?;
+    let world = read_named(alloc, File::World, names.world, shelf)?;
+    let rules = read_named(alloc, File::Rules, names.rules, shelf)?;
+    let expect = read_named(alloc, File::Expect, names.expect, shelf)?;
+    Ok(FilesRead {
+        tree,
+        world,
+        rules,
+        expect,
+    })
 }

@@ -5,7 +5,7 @@ use Rattle.cli_refusals.specs.declared.refusal.Refusal.{Refusal}
 use Rattle.base_texts.specs.declared.stop.Stop.{Stop}
 use Rattle.spec_program.specs.Output.{Output}
 use Rattle.cli_refusals.specs.Printing.{Printed}
-use Rattle.spec_program.specs.Refused.{words_refused, unread, too_long, tree_refused, world_refused, rules_refused, ground_refused, no_goal, join_refused}
+use Rattle.spec_program.specs.Refused.{words_refused, unread, too_long, tree_refused, world_refused, rules_refused, expect_refused, ground_refused, no_goal, join_refused}
 use Rattle.spec_program.specs.declared.exit.Exit.TheVariants as exit
 use Rattle.cli_refusals.specs.declared.refusal.Refusal.TheVariants as refusal
 use Rattle.base_texts.specs.declared.stop.Stop.TheVariants as stop
@@ -20,6 +20,7 @@ refused_as (refusal.World fault) = Some (world_refused fault)
 refused_as (refusal.Join fault) = Some (join_refused fault)
 refused_as refusal.NoGoal = Some no_goal
 refused_as (refusal.Rules fault) = Some (rules_refused fault)
+refused_as (refusal.Expect fault) = Some (expect_refused fault)
 refused_as (refusal.Ground fault) = Some (ground_refused fault)
 refused_as refusal.NoMemory = None
 

@@ -1,7 +1,8 @@
 ghost use Rattle.std.specs.Prelude.{◌≡◌, ◌++◌, IfOk, OnOk, codes, decimal};
-ghost use Rattle.spec_program.specs.Refusals.{build_words, driver_word, element_words, ground_words, join_words, kind_word, manifest_words, named, numbered, rules_words, script_words, tree_words, world_words};
+ghost use Rattle.spec_program.specs.Refusals.{build_words, driver_word, element_words, expect_word, expect_words, ground_words, join_words, kind_word, manifest_words, named, numbered, rules_words, script_words, tree_words, world_words};
 
 use base_texts::{Name, NoMemory};
+use spec_expect::{ExpectFault, ExpectKind};
 use spec_program::TreeFault;
 use spec_run::{DriverKind, JoinFault};
 use spec_script::ScriptFault;
@@ -267,6 +268,32 @@ pub fn ground_refusal(alloc: Global, fault: GroundFault) -> Result<Vec<u8>, NoMe
     let mut line = Vec::new(alloc);
     put_bytes(&mut line, b"refused ground ")?;
     put_ground_fault(&mut line, fault)?;
+    put_bytes(&mut line, b"\n")?;
+    Ok(line)
+}
+
+/// The word for what is wrong with a file of expectations.
+fn expect_word(kind: ExpectKind) -> &'static [u8]
+    ensures { result.now ≡ expect_word kind }
+{
+    match kind {
+        ExpectKind::Header => b"Header",
+        ExpectKind::BadLine => b"BadLine",
+        ExpectKind::NoName => b"NoName",
+        ExpectKind::NoLeaf => b"NoLeaf",
+        ExpectKind::NoRunner => b"NoRunner",
+        ExpectKind::Range => b"Range",
+        ExpectKind::TooMany => b"TooMany",
+    }
+}
+
+/// The line that refuses a file of expectations.
+pub fn expect_refusal(alloc: Global, fault: ExpectFault) -> Result<Vec<u8>, NoMemory>
+    ensures { IfOk result (λ line. line.items ≡ codes "refused expect " ++ expect_words fault ++ codes "\n") }
+{
+    let mut line = Vec::new(alloc);
+    put_bytes(&mut line, b"refused expect ")?;
+    put_numbered(&mut line, expect_word(fault.kind), fault.line)?;
     put_bytes(&mut line, b"\n")?;
     Ok(line)
 }

@@ -4,9 +4,12 @@ ghost use Rattle.spec_program.specs.Refused.{too_long, unread};
 ghost use Rattle.cli_refusals.specs.Printing.{IsSpoken, Printed};
 ghost use Rattle.spec_program.specs.Output.{line_of};
 
-use crate::line::{ground_refusal, join_refusal, rules_refusal, tree_refusal, world_refusal};
+use crate::line::{
+    expect_refusal, ground_refusal, join_refusal, rules_refusal, tree_refusal, world_refusal,
+};
 use base_outside::Sink;
 use base_texts::{NoMemory, Stop};
+use spec_expect::ExpectFault;
 use spec_program::{Exit, File, TreeFault};
 use spec_run::JoinFault;
 use spec_tree_file::MockFault;
@@ -34,6 +37,8 @@ pub enum Refusal {
     NoGoal,
     /// The rules file says no rules, or they make of the tree one that passes a limit.
     Rules(MockFault),
+    /// The file of expectations is none.
+    Expect(ExpectFault),
     /// The ground file has a fault, or the world script that it stands for.
     Ground(GroundFault),
     /// The program is out of memory.
@@ -106,6 +111,20 @@ impl From<Stop<MockFault>> for Refusal {
     }
 }
 
+impl From<Stop<ExpectFault>> for Refusal {
+    ghost use Rattle.cli_refusals.specs.declared.refusal.Refusal.TheVariants as refusal;
+    ghost use Rattle.cli_refusals.specs.Refusing.{stopped_as};
+
+    ghost from_gives = { λ stopped refused. refused ≡ stopped_as refusal.Expect stopped };
+
+    fn from(stopped: Stop<ExpectFault>) -> Refusal {
+        match stopped {
+            Stop::Fault(fault) => Refusal::Expect(fault),
+            Stop::NoMemory => Refusal::NoMemory,
+        }
+    }
+}
+
 impl From<Stop<GroundFault>> for Refusal {
     ghost use Rattle.cli_refusals.specs.declared.refusal.Refusal.TheVariants as refusal;
     ghost use Rattle.cli_refusals.specs.Refusing.{stopped_as};
@@ -144,6 +163,7 @@ fn write_unread<K: Sink>(file: File, out: &mut K) -> Exit
         File::Tree => write_last(b"refused read tree\n", Exit::Read, out),
         File::World => write_last(b"refused read world\n", Exit::Read, out),
         File::Rules => write_last(b"refused read rules\n", Exit::Read, out),
+        File::Expect => write_last(b"refused read expect\n", Exit::Read, out),
     }
 }
 
@@ -157,6 +177,7 @@ fn write_too_long<K: Sink>(file: File, out: &mut K) -> Exit
         File::Tree => write_last(b"refused tree TooLong\n", Exit::Tree, out),
         File::World => write_last(b"refused world TooLong\n", Exit::World, out),
         File::Rules => write_last(b"refused rules TooLong\n", Exit::Rules, out),
+        File::Expect => write_last(b"refused expect TooLong 0\n", Exit::Expect, out),
     }
 }
 
@@ -186,6 +207,10 @@ pub fn write_refusal<K: Sink>(alloc: Global, refusal: &Refusal, out: &mut K) -> 
         Refusal::NoGoal => write_last(b"refused world NoGoal\n", Exit::World, out),
         Refusal::Rules(fault) => match rules_refusal(alloc, fault) {
             Ok(line) => write_last(line.as_slice(), Exit::Rules, out),
+            Err(NoMemory) => Exit::Memory,
+        },
+        Refusal::Expect(fault) => match expect_refusal(alloc, *fault) {
+            Ok(line) => write_last(line.as_slice(), Exit::Expect, out),
             Err(NoMemory) => Exit::Memory,
         },
         Refusal::Ground(fault) => match ground_refusal(alloc, *fault) {

@@ -2,7 +2,7 @@
 use Rattle.std.specs.Prelude.{ℕ, ◌≤◌}
 use Rattle.std.specs.Option.{option_copied}
 use Rattle.spec_tree.specs.Limits.{most_leaves}
-use Rattle.spec_program.specs.Words.{Command, Tick, Live, Load, Check, Dead, Exclusive, Plan, Mock, MockPrint, Ground, GroundPlan}
+use Rattle.spec_program.specs.Words.{Command, Tick, Live, Load, Check, Dead, Exclusive, Plan, Mock, MockPrint, Ground, GroundPlan, Expect}
 use Rattle.cli_words.specs.declared.words.Command.{Command as Read}
 use Rattle.cli_words.specs.declared.words.Command.TheVariants as read
 
@@ -18,6 +18,7 @@ command_seen (read.Plan world expand ticks period) = Plan world.now expand ticks
 command_seen (read.Mock tree world rules main) = Mock tree.now world.now rules.now (option_copied main)
 command_seen (read.MockPrint tree rules main) = MockPrint tree.now rules.now (option_copied main)
 command_seen (read.Ground world) = Ground world.now
+command_seen (read.Expect tree world expect main) = Expect tree.now world.now expect.now (option_copied main)
 command_seen (read.GroundPlan world expand ticks period) = GroundPlan world.now expand ticks period
 
 -- the limits of a plan

@@ -4,7 +4,7 @@ ghost use Rattle.std.specs.Option.{option_copied};
 ghost use Rattle.cli_words.specs.Commands.{AreLimits, IsInRange, command_seen};
 ghost use Rattle.cli_words.specs.Serving.{serve_seen};
 ghost use Rattle.spec_program.specs.Words as definition;
-ghost use Rattle.spec_program.specs.Words.{are_options, as_count, check_of, command_of, before_main, dead_of, exclusive_of, from_main, ground_of, ground_plan_of, in_range, is_option, is_unset, limited_words, live_of, load_of, main_in, mock_of, mock_print_of, mock_run_of, number_or, plan_of, rounds_in, serve_of, tick_of, value_of, without_strict};
+ghost use Rattle.spec_program.specs.Words.{are_options, as_count, check_of, command_of, before_main, dead_of, exclusive_of, expect_of, from_main, ground_of, ground_plan_of, in_range, is_option, is_unset, limited_words, live_of, load_of, main_in, mock_of, mock_print_of, mock_run_of, number_or, plan_of, rounds_in, serve_of, tick_of, value_of, without_strict};
 ghost use Rattle.spec_tree.specs.Limits.{most_leaves, most_rounds};
 ghost use Rattle.spec_tree.specs.Numbers.{int_in};
 
@@ -77,6 +77,13 @@ pub enum Command<'a> {
     MockPrint {
         tree: &'a Name,
         rules: &'a Name,
+        main: Option<&'a Name>,
+    },
+    /// `expect TREE WORLD EXPECT [--main ID]`
+    Expect {
+        tree: &'a Name,
+        world: &'a Name,
+        expect: &'a Name,
         main: Option<&'a Name>,
     },
     /// `ground WORLD`
@@ -415,6 +422,23 @@ fn read_mock_run<'a>(words: &'a [Name]) -> Option<Command<'a>>
     })
 }
 
+/// The command `expect` with these words after it.
+fn read_expect<'a>(words: &'a [Name]) -> Option<Command<'a>>
+    ensures command { MatchOption result (expect_of words.now ≡ None) (λ c. expect_of words.now ≡ Some (command_seen c)) }
+    ensures range { IfSome result (λ c. IsInRange (command_seen c)) }
+{
+    let [tree, world, expect, options @ ..] = words else {
+        return None;
+    };
+    let main = main_in(options)?;
+    Some(Command::Expect {
+        tree,
+        world,
+        expect,
+        main,
+    })
+}
+
 /// The command `mock --print` with these words after it.
 fn read_mock_print<'a>(words: &'a [Name]) -> Option<Command<'a>>
     ensures command { MatchOption result (mock_print_of words.now ≡ None) (λ c. mock_print_of words.now ≡ Some (command_seen c)) }
@@ -466,6 +490,8 @@ pub fn read_command<'a>(words: &'a [Name]) -> Option<Command<'a>>
         read_ground_plan(words)
     } else if word.list() == b"exclusive".as_slice() {
         read_exclusive(words)
+    } else if word.list() == b"expect".as_slice() {
+        read_expect(words)
     } else {
         None
     }

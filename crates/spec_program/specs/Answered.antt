@@ -24,12 +24,14 @@ pub record AreTold (holds : Option (List ℕ → List ℕ)) (named : Named) (fil
   pub tree : ToldIfNamed holds named.tree (λ file. files.tree ≡ file)
   pub world : ToldIfNamed holds named.world (λ file. files.world ≡ file)
   pub rules : ToldIfNamed holds named.rules (λ file. files.rules ≡ file)
+  pub expect : ToldIfNamed holds named.expect (λ file. files.expect ≡ file)
 
 -- none of them is too long
 pub record AreShort (files : Contents) : Type 0 where
   pub tree : length files.tree ≤ most_file_bytes
   pub world : length files.world ≤ most_file_bytes
   pub rules : length files.rules ≤ most_file_bytes
+  pub expect : length files.expect ≤ most_file_bytes
 
 -- .. and these are their bytes, where the shelf tells them
 pub record AreWithin (holds : Option (List ℕ → List ℕ)) (named : Named) (files : Contents) : Type 0 where

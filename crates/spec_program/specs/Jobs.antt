@@ -1,13 +1,14 @@
 -- What each command is about: its files, and what they have for its output.
 use Rattle.std.specs.Prelude.{ℕ, ◌≡◌, List, [], Option, Some, None}
-use Rattle.spec_program.specs.Words.{Command, Tick, Live, Load, Check, Dead, Exclusive, Plan, Mock, MockPrint, Ground, GroundPlan}
+use Rattle.spec_program.specs.Words.{Command, Tick, Live, Load, Check, Dead, Exclusive, Plan, Mock, MockPrint, Ground, GroundPlan, Expect}
 use Rattle.spec_output.specs.LoadTexts.{tree_text, world_text}
 use Rattle.spec_run.specs.Drivers.{DriverState}
 use Rattle.spec_outside.specs.Moments.{Moments}
 use Rattle.spec_program.specs.declared.course.Course.TheVariants as course
 use Rattle.spec_program.specs.declared.print.Print.TheVariants as print
 use Rattle.spec_program.specs.Exclusives.{Exclusives}
-use Rattle.spec_program.specs.Files.{Contents, Named, no_files, tree_alone, tree_and_rules, tree_and_world, tree_world_rules, world_alone}
+use Rattle.spec_program.specs.Files.{Contents, Named, no_files, tree_alone, tree_and_rules, tree_and_world, tree_world_expect, tree_world_rules, world_alone}
+use Rattle.spec_program.specs.Expecting.{Expects}
 use Rattle.spec_program.specs.Grounds.{GroundBegins, GroundPlans, Grounds}
 use Rattle.spec_program.specs.Gives.{Beginning, BeginsNothing, CourseGives, Giving, Mocks, Prints, PrintsMade, RunsOn}
 use Rattle.spec_program.specs.Output.{Output}
@@ -39,6 +40,7 @@ job_of (Plan world expand ticks period) =
     record { named = world_alone world; gives = Plans limits; begins = Begins limits }
 job_of (Mock tree world rules main) = record { named = tree_world_rules tree world rules; gives = Mocks main; begins = BeginsNothing }
 job_of (MockPrint tree rules main) = record { named = tree_and_rules tree rules; gives = PrintsMade main; begins = BeginsNothing }
+job_of (Expect tree world expect main) = record { named = tree_world_expect tree world expect; gives = Expects main; begins = BeginsNothing }
 job_of (Ground world) = record { named = world_alone world; gives = Grounds; begins = BeginsNothing }
 job_of (GroundPlan world expand ticks period) =
     let limits : Limits = record { expand = expand; ticks = ticks; period = period } in
@@ -62,7 +64,8 @@ held holds (Some name) = holds name
 held holds None = []
 
 abbrev pub held_by : (List ℕ → List ℕ) → Named → Contents
-held_by holds named = record { tree = held holds named.tree; world = held holds named.world; rules = held holds named.rules }
+held_by holds named =
+    record { tree = held holds named.tree; world = held holds named.world; rules = held holds named.rules; expect = held holds named.expect }
 
 -- the output of a command over what the files hold; words that are no command are refused
 abbrev pub CommandGives : Option Command → (List ℕ → List ℕ) → Moments → List DriverState → Output → Type 0

@@ -2,6 +2,7 @@ pub mod Answered
 pub mod Answers
 pub mod Courses
 pub mod Exclusives
+pub mod Expecting
 pub mod Files
 pub mod Gives
 pub mod Grounds

@@ -35,7 +35,8 @@ if_named which (Some name) = (which, name) ∷ []
 
 -- the files that are named, in the order in which they are read
 abbrev pub in_order : Named → List NamedFile
-in_order named = if_named file.Tree named.tree ++ (if_named file.World named.world ++ if_named file.Rules named.rules)
+in_order named =
+    if_named file.Tree named.tree ++ (if_named file.World named.world ++ (if_named file.Rules named.rules ++ if_named file.Expect named.expect))
 
 -- the files of words; those that are no command name none
 abbrev pub files_in : Option Command → List NamedFile

@@ -17,6 +17,9 @@ use Rattle.spec_tree_file.specs.declared.mock_fault.MockFault.TheVariants as moc
 use Rattle.spec_output.specs.Lines.{quoted}
 use Rattle.spec_run.specs.declared.leaf.DriverKind.{DriverKind}
 use Rattle.spec_run.specs.declared.leaf.DriverKind.TheVariants as driver
+use Rattle.spec_expect.specs.declared.expect_fault.ExpectFault.{ExpectFault}
+use Rattle.spec_expect.specs.declared.expect_fault.ExpectKind.{ExpectKind}
+use Rattle.spec_expect.specs.declared.expect_fault.ExpectKind.TheVariants as expect
 use Rattle.spec_world_file.specs.declared.world_fault.WorldFault.{WorldFault}
 use Rattle.spec_world_file.specs.declared.world_fault.WorldKind.{WorldKind}
 use Rattle.spec_world_file.specs.declared.world_fault.WorldKind.TheVariants as world
@@ -127,3 +130,16 @@ ground_words (ground.TooMany line) = numbered (codes "TooMany") line
 ground_words (ground.Unended line) = numbered (codes "Unended") line
 ground_words (ground.TooManyGround size) = numbered (codes "TooManyGround") size
 ground_words (ground.World line kind) = codes "World " ++ numbered (kind_word kind) line
+
+abbrev pub expect_word : ExpectKind → List ℕ
+expect_word expect.Header = codes "Header"
+expect_word expect.BadLine = codes "BadLine"
+expect_word expect.NoName = codes "NoName"
+expect_word expect.NoLeaf = codes "NoLeaf"
+expect_word expect.NoRunner = codes "NoRunner"
+expect_word expect.Range = codes "Range"
+expect_word expect.TooMany = codes "TooMany"
+
+-- the words of a fault of a file of expectations: what is wrong, and the line
+abbrev pub expect_words : ExpectFault → List ℕ
+expect_words fault = numbered (expect_word fault.kind) fault.line

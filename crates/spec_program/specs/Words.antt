@@ -41,6 +41,7 @@ pub data Command : Type 0 where
   Mock : (tree world rules : List ℕ) (main : Option (List ℕ)) → Command
   MockPrint : (tree rules : List ℕ) (main : Option (List ℕ)) → Command
   Ground : (world : List ℕ) → Command
+  Expect : (tree world expect : List ℕ) (main : Option (List ℕ)) → Command
   GroundPlan : (world : List ℕ) (expand ticks period : ℕ) → Command
 
 -- the options of a command: the ID of the main tree, for some also a number of ticks, and for a plan its limits
@@ -170,6 +171,11 @@ abbrev pub mock_print_of : List (List ℕ) → Option Command
 mock_print_of (tree ∷ rules ∷ options) = option_map (MockPrint tree rules) (main_in options)
 mock_print_of _ = None
 
+-- `TREE WORLD EXPECT [--main ID]`
+abbrev pub expect_of : List (List ℕ) → Option Command
+expect_of (tree ∷ world ∷ expect ∷ options) = option_map (Expect tree world expect) (main_in options)
+expect_of _ = None
+
 -- those words, after `--print` the latter
 abbrev pub mock_of : List (List ℕ) → Option Command
 mock_of (word ∷ words) = if bytes_eq word (codes "--print") then mock_print_of words else mock_run_of (word ∷ words)
@@ -180,7 +186,7 @@ abbrev pub commands : List (List ℕ × (List (List ℕ) → Option Command))
 commands =
     (codes "tick", tick_of) ∷ (codes "live", live_of) ∷ (codes "load", load_of) ∷ (codes "check", check_of) ∷ (codes "dead", dead_of)
     ∷ (codes "plan", plan_of) ∷ (codes "mock", mock_of)
-    ∷ (codes "ground", ground_of) ∷ (codes "gplan", ground_plan_of) ∷ (codes "exclusive", exclusive_of) ∷ []
+    ∷ (codes "ground", ground_of) ∷ (codes "gplan", ground_plan_of) ∷ (codes "exclusive", exclusive_of) ∷ (codes "expect", expect_of) ∷ []
 
 abbrev pub command_among : List (List ℕ × (List (List ℕ) → Option Command)) → List ℕ → List (List ℕ) → Option Command
 command_among [] word words = None
@@ -231,4 +237,6 @@ status_of exit.Write = 8
 status_of exit.Memory = 9
 status_of exit.Rules = 10
 status_of exit.Request = 11
+status_of exit.Expect = 12
+status_of exit.Unmet = 13
 status_of exit.NotExclusive = 14

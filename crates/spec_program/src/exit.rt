@@ -26,6 +26,10 @@ pub enum Exit {
     Rules,
     /// A line of a host is refused.
     Request,
+    /// The file of expectations is refused.
+    Expect,
+    /// The run does not meet an expectation.
+    Unmet,
     /// Two leaves with the listed IDs may be held together.
     NotExclusive,
 }
@@ -47,6 +51,8 @@ impl Exit {
             Exit::Memory => 9,
             Exit::Rules => 10,
             Exit::Request => 11,
+            Exit::Expect => 12,
+            Exit::Unmet => 13,
             Exit::NotExclusive => 14,
         }
     }

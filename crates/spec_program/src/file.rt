@@ -7,4 +7,6 @@ pub enum File {
     World,
     /// The rules file.
     Rules,
+    /// The file of expectations.
+    Expect,
 }

@@ -1,4 +1,6 @@
 pub mod Counting
+pub mod Expected
+pub mod Following
 pub mod Going
 pub mod Halted
 pub mod Load

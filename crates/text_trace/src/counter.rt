@@ -28,7 +28,7 @@ impl Counter {
 }
 
 impl Watch for Counter {
-    ghost state = { λ w. record { text = λ block. []; written = None; faults = 0; counts = Some w.counts; lent = 0 } };
+    ghost state = { λ w. record { text = λ block. []; written = None; faults = 0; counts = Some w.counts; expecting = None; lent = 0 } };
 
     fn show(&mut self, _: Global, block: &Block) -> Result<(), TextStop> {
         count_notes(&mut self.counts, block.notes.list());

@@ -6,6 +6,7 @@ mod counter;
 mod counts;
 mod ended;
 mod events;
+mod expecting;
 mod finishes;
 mod load;
 mod rounds;
@@ -17,6 +18,7 @@ mod writer;
 
 pub use counter::Counter;
 pub use ended::Ended;
+pub use expecting::{Expecting, run_expected};
 pub use load::{load_tree, load_world, run_load};
 pub use rounds::run_rounds;
 pub use running::run_events;

@@ -21,6 +21,7 @@ impl<'a, K: Sink> Watch for Writer<'a, K> {
       written = K.written w.out.now;
       faults = K.faults w.out.now;
       counts = None;
+      expecting = None;
       lent = w.out.ghost_name;
     } };
 

@@ -141,7 +141,7 @@ fn names_on(
 
 /// The runs of a tree in a world over these drivers, where every leaf has a row and its row a driver, and every event of
 /// the script that tells a leaf something finds one that can be told it. The fault is what is missing first.
-fn joined_runs<D: Drivers>(
+pub fn joined_runs<D: Drivers>(
     alloc: Global,
     tree: &Tree,
     slots: &Slots,

@@ -1,0 +1,71 @@
+ghost use Rattle.std.specs.Prelude.{◌≡◌, [], IfOk};
+ghost use Rattle.spec_world_file.specs.WorldFile as file;
+ghost use Rattle.spec_world_file.specs.WorldFile.{is_known};
+ghost use Rattle.spec_expect.specs.ExpectFile.{subject_of};
+ghost use Rattle.expect_reader.specs.Reading.{subject_seen};
+
+use crate::places::places_of;
+use base_texts::{Name, NoMemory};
+use spec_expect::Place;
+use spec_script::Expr;
+use spec_tree::Tree;
+use spec_world::{Fact, World};
+use std::alloc::Global;
+
+/// What the lines of a file speak of: the facts and the runners of a world, and the nodes of a tree.
+#[derive(Drop)]
+pub struct Subject<'a> {
+    pub facts: &'a [Fact],
+    pub runners: u8,
+    pub places: Vec<Place>,
+}
+
+/// What lines speak of that are about the run of this tree in this world.
+pub fn subject_of<'a>(
+    alloc: Global,
+    tree: &Tree,
+    world: &'a World,
+) -> Result<Subject<'a>, NoMemory>
+    ensures { IfOk result (λ subject. subject_seen subject ≡ subject_of tree.now world.entry.now) }
+{
+    Ok(Subject {
+        facts: world.facts.list(),
+        runners: world.runners,
+        places: places_of(alloc, tree)?,
+    })
+}
+
+/// Whether a fact has this name.
+fn is_fact(facts: &[Fact], name: &Name) -> bool
+    ensures { result ≡ is_known [] facts.now name.now }
+{
+    facts.iter().any(|fact| fact.name == *name)
+}
+
+/// Whether each name of the expression is that of a fact.
+pub fn knows_all(facts: &[Fact], e: &Expr) -> bool
+    ensures { result ≡ file.knows_all [] facts.now e.now }
+{
+    match e {
+        Expr::Num(_) => true,
+        Expr::Lit(_) => true,
+        Expr::Look(name) => is_fact(facts, name),
+        Expr::Group(a) => knows_all(facts, a.get()),
+        Expr::Unary(_, a) => knows_all(facts, a.get()),
+        Expr::Binary(_, a, b) => {
+            if !knows_all(facts, a.get()) {
+                return false;
+            }
+            knows_all(facts, b.get())
+        }
+        Expr::Choose(a, b, c) => {
+            if !knows_all(facts, a.get()) {
+                return false;
+            }
+            if !knows_all(facts, b.get()) {
+                return false;
+            }
+            knows_all(facts, c.get())
+        }
+    }
+}

@@ -1,0 +1,6 @@
+pub mod ExpectFile
+pub mod Leaves
+pub mod Met
+pub mod Stories
+pub mod Told
+pub mod Verdicts
