@@ -1,12 +1,11 @@
-use Rattle.std.proofs.Common.{◌≡◌, sym, ap, subst, ◌∙◌}
-use Rattle.world_draft.specs.Drafts.{fails_said, row_of}
+use Rattle.world_draft.specs.Drafts.{row_of}
 use Rattle.world_draft.proofs.AddedFails.{measured_fails, timed_fails}
-use Rattle.world_draft.proofs.draft.Draft.add_fails.Goals.{in-Timed, in-Timed-2}
 use Rattle.world_draft.proofs.draft.Draft.add_fails.Goals as goal
 
 pub returns-in-Timed-clause-added : goal.returns-in-Timed-clause-added
 returns-in-Timed-clause-added c =
-    elim c.in-Timed-1.branch [
-      | in-Timed w ↦ ?
-      | in-Timed-2 w ↦ ?
-    ]
+    timed_fails _ _ _ _ (row_of c.args.self.now) c.args.facts.now _ c.args.expr c.in-Timed.is c.knows_all-known.ensures c.set_fails-in-Timed.ensures
+
+pub returns-in-TimedBy-clause-added : goal.returns-in-TimedBy-clause-added
+returns-in-TimedBy-clause-added c =
+    measured_fails _ _ _ _ (row_of c.args.self.now) c.args.facts.now _ c.args.expr c.in-TimedBy.is c.knows_all-known.ensures c.set_fails-in-TimedBy.ensures
