@@ -13,7 +13,7 @@ use Rattle.world_draft.specs.Drafts.{fails_said}
 use Rattle.world_draft.specs.Readings.{Leaves}
 
 -- the row with what is said
-row_said : (Option Expr → RowSort) → Row → Result (Option Expr) WorldKind → Result Row WorldKind
+abbrev row_said : (Option Expr → RowSort) → Row → Result (Option Expr) WorldKind → Result Row WorldKind
 row_said sort row (Ok fails) = Ok (record row { sort = sort fails })
 row_said sort row (Err kind) = Err kind
 

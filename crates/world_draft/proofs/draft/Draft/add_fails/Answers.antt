@@ -4,7 +4,7 @@ use Rattle.world_draft.proofs.draft.Draft.add_fails.Goals as goal
 
 pub returns-in-Timed-clause-added : goal.returns-in-Timed-clause-added
 returns-in-Timed-clause-added c =
-    timed_fails _ _ _ _ (row_of c.args.self.now) c.args.facts.now _ c.args.expr c.in-Timed.is c.knows_all-known.ensures c.set_fails-in-Timed.ensures
+    timed_fails _ _ _ _ (row_of c.args.self.now) c.args.facts.now _ c.args.expr c.in-Timed.is c.knows_all-known.ensures c.set_fails.ensures
 
 pub returns-in-TimedBy-clause-added : goal.returns-in-TimedBy-clause-added
 returns-in-TimedBy-clause-added c =
