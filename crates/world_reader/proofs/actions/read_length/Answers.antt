@@ -1,5 +1,7 @@
 use Rattle.std.proofs.Common.{Some, Err, None, refl, sym, ap, subst, ◌∙◌}
 use Rattle.std.specs.Prelude.{option_map}
+use Rattle.base_texts.specs.declared.stop.Stop.TheVariants as stop
+use Rattle.spec_world_file.specs.declared.world_fault.WorldKind.TheVariants.{BadLine}
 use Rattle.spec_world_file.specs.WorldFile.{ReadsNumeric, TimedByLine, with_action}
 use Rattle.spec_world.specs.declared.world.RowSort.TheVariants.{TimedBy}
 use Rattle.world_draft.specs.Drafts.{row_of}
@@ -14,7 +16,7 @@ returns-then-not-is_group c =
     let head = seen_head c.in-Some.head in
     let e = c.in-Some-2.length in
     let reads : ReadsNumeric text (Some e) = subst (ReadsNumeric text) c.in-Some-2.is c.in_ok-length.ensures in
-    of_mapped {A = Unit {0}} r r (λ h. TimedByLine h text) head c.args.row.now (Err _) (ap (option_map seen_head) (sym c.in-Some.is) ∙ c.in_ok-head.ensures)
+    of_mapped {A = Unit {0}} r r (λ h. TimedByLine h text) head c.args.row.now (Err (stop.Fault BadLine)) (ap (option_map seen_head) (sym c.in-Some.is) ∙ c.in_ok-head.ensures)
     (says_bare r text e head (sym c.is_group.ensures ∙ c.if-not-is_group.true) reads)
 
 pub returns-in-Ok : goal.returns-in-Ok
