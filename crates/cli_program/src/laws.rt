@@ -7,11 +7,11 @@ ghost use Rattle.spec_program.specs.declared.exit.Exit.{Exit as Given};
 ghost use Rattle.spec_program.specs.declared.exit.Exit.TheVariants as exit;
 ghost use Rattle.spec_program.specs.Words.{Command, Load};
 ghost use Rattle.cli_commands.specs.Answering.{CommandAnswered};
-ghost use Rattle.spec_program.specs.Answered.{ReadFailed, WordsAnswered};
+ghost use Rattle.spec_program.specs.Answered.{ReadFailed};
 ghost use Rattle.spec_program.specs.Reads.{WordsUnread};
 ghost use Rattle.spec_outside.specs.Counts.{Rose};
 ghost use Rattle.spec_program.specs.Headline.{EachOutput, IsGiven, WholeOutput};
-ghost use Rattle.cli_program.specs.LawWords.{IsNotLive, UnreadLine};
+ghost use Rattle.cli_program.specs.LawWords.{IsNotLive, ShelfAnswered, UnreadLine};
 ghost use Rattle.spec_program.specs.Refused.{words_refused};
 
 use base_outside::Shelf;
@@ -25,24 +25,24 @@ use world_reader::laws::worlds_read_one_way;
 /// of a file failed, and its line was written; at Write the sink's count of failures rose.
 pub fn words_are_answered<S: Shelf>(before: &S, after: &S)
     ensures any_shelf { (command : Option Command) (result : Given) (old new : Side) →
-        WordsAnswered S.read_gives (S.holds before.now) command (Rose (S.faults before.now) (S.faults after.now)) before.now after.now result old new
+        ShelfAnswered S.read_gives (S.holds before.now) S.faults before.now after.now command result old new
         → CommandAnswered command (S.holds before.now) (Rose (S.faults before.now) (S.faults after.now))
         (WordsUnread S.read_gives (S.holds before.now) command before.now after.now) result old new }
     ensures words { (command : Option Command) (result : Given) (old new : Side) →
-        WordsAnswered S.read_gives (S.holds before.now) command (Rose (S.faults before.now) (S.faults after.now)) before.now after.now result old new
+        ShelfAnswered S.read_gives (S.holds before.now) S.faults before.now after.now command result old new
         → result ≡ exit.Words → command ≡ None }
     ensures no_command { (command : Option Command) (result : Given) (old new : Side) →
-        WordsAnswered S.read_gives (S.holds before.now) command (Rose (S.faults before.now) (S.faults after.now)) before.now after.now result old new
+        ShelfAnswered S.read_gives (S.holds before.now) S.faults before.now after.now command result old new
         → command ≡ None → Gave words_refused result old new }
     ensures unasked { (command : Option Command) (result : Given) (old new : Side) →
-        WordsAnswered S.read_gives (S.holds before.now) command (Rose (S.faults before.now) (S.faults after.now)) before.now after.now result old new
+        ShelfAnswered S.read_gives (S.holds before.now) S.faults before.now after.now command result old new
         → IsNotLive command → new.clock ≡ old.clock }
     ensures read { (command : Option Command) (result : Given) (old new : Side) →
-        WordsAnswered S.read_gives (S.holds before.now) command (Rose (S.faults before.now) (S.faults after.now)) before.now after.now result old new
+        ShelfAnswered S.read_gives (S.holds before.now) S.faults before.now after.now command result old new
         → result ≡ exit.Read → Rose (S.faults before.now) (S.faults after.now)
         × UnreadLine (WordsUnread S.read_gives (S.holds before.now) command before.now after.now) old new }
     ensures write { (command : Option Command) (result : Given) (old new : Side) →
-        WordsAnswered S.read_gives (S.holds before.now) command (Rose (S.faults before.now) (S.faults after.now)) before.now after.now result old new
+        ShelfAnswered S.read_gives (S.holds before.now) S.faults before.now after.now command result old new
         → result ≡ exit.Write → Rose old.faults new.faults }
 {}
 
@@ -61,13 +61,13 @@ pub fn outputs_are_complete<S: Shelf>(before: &S, after: &S)
 /// nothing. They are said here of whatever files there may be; no read can have failed.
 pub fn loads_are_answered_over_every_shelf<S: Shelf>(before: &S, after: &S)
     ensures whole { (leaves : ℕ) (holds : List ℕ → List ℕ) (result : Given) (old new : Side) →
-        WordsAnswered S.read_gives (S.holds before.now) (Some (Load leaves)) (Rose (S.faults before.now) (S.faults after.now)) before.now after.now result old new
+        ShelfAnswered S.read_gives (S.holds before.now) S.faults before.now after.now (Some (Load leaves)) result old new
         → IsGiven result → WholeOutput (Some holds) (Some (Load leaves)) result old new }
     ensures each { (leaves : ℕ) (holds : List ℕ → List ℕ) (result : Given) (old new : Side) →
-        WordsAnswered S.read_gives (S.holds before.now) (Some (Load leaves)) (Rose (S.faults before.now) (S.faults after.now)) before.now after.now result old new
+        ShelfAnswered S.read_gives (S.holds before.now) S.faults before.now after.now (Some (Load leaves)) result old new
         → EachOutput (Some holds) (Some (Load leaves)) old (λ o. Gave o result old new) }
     ensures begun { (leaves : ℕ) (holds : List ℕ → List ℕ) (result : Given) (old new : Side) →
-        WordsAnswered S.read_gives (S.holds before.now) (Some (Load leaves)) (Rose (S.faults before.now) (S.faults after.now)) before.now after.now result old new
+        ShelfAnswered S.read_gives (S.holds before.now) S.faults before.now after.now (Some (Load leaves)) result old new
         → EachOutput (Some holds) (Some (Load leaves)) old (λ o. DriversWithin o.drivers old.drivers new.drivers) }
 {
     one_element();

@@ -1,7 +1,6 @@
 -- No visit and no reset notes an answer of the root, so the notes of a tick tell one at most.
 use Rattle.std.proofs.Common.{◌≡◌, ℕ, ◌+◌, List, [], ◌∷◌, ◌++◌, cond, count_by, Option, Some, None, Result, Ok, Err, map, refl, arith}
 use Rattle.std.specs.List.{AllByRecursion}
-use Rattle.std.specs.Result.{IfErr}
 use Rattle.std.proofs.lemmas.List.Sums.{sum_by-append}
 use Rattle.spec_script.specs.declared.syntax.Script.{Script}
 use Rattle.spec_run.specs.declared.block.Header.{Header}
@@ -28,7 +27,7 @@ use Rattle.spec_run.specs.Sites.{Meaning, Site, View}
 use Rattle.spec_run.specs.Visit.{change, meaning}
 use Rattle.run_laws.proofs.Induction.{every_term}
 use Rattle.plan_trial.specs.Roots.{TellRootOnce, is_root}
-use Rattle.run_laws.proofs.Claims.{Claim, Meets, TermMeets}
+use Rattle.run_laws.proofs.Claims.{Claim, Meets, TermMeets, any_end}
 use Rattle.run_laws.proofs.ClaimedVisits.{NodeMeets, ScriptMeets, change_meets, node_meets}
 
 -- how many notes tell an answer of the root
@@ -57,10 +56,6 @@ rootless = record {
 }
 
 -- ---- Every term
-
-any_end : {A : Type 0} (answer : Result A NodeFault) → IfErr answer (λ f. Unit {0})
-any_end (Ok a) = tt
-any_end (Err f) = tt
 
 without_notes : {A M : Type 0} (s : State) (d : Done A M) → roots d.notes ≡ 0 → Meets rootless s d
 without_notes s d none = record { state = tt; notes = none; end = any_end d.answer }

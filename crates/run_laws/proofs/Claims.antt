@@ -21,6 +21,11 @@ use Rattle.spec_run.specs.Steps.{Child, child_at, reset_within, resets, spans}
 use Rattle.spec_run.specs.Visit.{halt_state}
 use Rattle.spec_tree.specs.declared.term.Kind.TheVariants.{Leaf}
 
+-- what says nothing of a fault holds of each answer
+pub any_end : {A : Type 0} (answer : Result A NodeFault) → IfErr answer (λ f. Unit {0})
+any_end (Ok a) = tt
+any_end (Err f) = tt
+
 -- What is claimed of each part of an event: of the state after it; of its notes, with the states before and after it; and
 -- of the cause of its fault; for nodes below a uid that is in reach, by what they see. And that what a node does without
 -- scripts and drivers meets the claim.

@@ -1,8 +1,7 @@
 -- What is read from the notes of the calls of leaves is what is to be seen of the leaves' instances, after every part of an
 -- event.
-use Rattle.std.proofs.Common.{◌≡◌, ℕ, ◌+◌, ◌<◌, ◌≤◌, List, [], ◌∷◌, ◌++◌, map, length, slice_set, Bool, false, is_some, Option, Some, None, Result, Ok, Err, refl, sym, ap, ◌∙◌, arith}
+use Rattle.std.proofs.Common.{◌≡◌, ℕ, ◌+◌, ◌<◌, ◌≤◌, List, [], ◌∷◌, ◌++◌, map, length, slice_set, Bool, false, is_some, Option, Some, None, refl, sym, ap, ◌∙◌, arith}
 use Rattle.std.specs.List.{AllByRecursion}
-use Rattle.std.specs.Result.{IfErr}
 use Rattle.std.proofs.lemmas.List.{length-set}
 use Rattle.spec_script.specs.declared.syntax.Script.{Script}
 use Rattle.spec_run.specs.declared.fault.NodeFault.{NodeFault}
@@ -30,7 +29,7 @@ use Rattle.spec_run.specs.Run.{root_reset, root_told, settled, ticked}
 use Rattle.spec_run.specs.Sites.{Meaning, Site, View, remembered}
 use Rattle.spec_run.specs.Visit.{change, meaning, status_of}
 use Rattle.base_tables.proofs.Calls.{held_while_running}
-use Rattle.run_laws.proofs.Claims.{Claim, Meets, TermMeets, done_meets, follow_meets, following_meets}
+use Rattle.run_laws.proofs.Claims.{Claim, Meets, TermMeets, any_end, done_meets, follow_meets, following_meets}
 use Rattle.run_laws.proofs.ClaimedVisits.{NodeMeets, ScriptMeets, change_meets, node_meets}
 use Rattle.run_laws.proofs.Induction.{every_term}
 use Rattle.run_laws.proofs.LeafCalls.{broken_changes_nothing}
@@ -56,10 +55,6 @@ pub record Follows (count : ℕ) (read : Note → Bool → Bool) (seen : List In
   pub ran : (is : List Instance) (uid : ℕ) (w : Instance) (a : Answer) → length is ≡ count → uid < count → is_some w.since ≡ is_running (status_of a) →
       read (note.Ran uid a) (seen is) ≡ seen (slice_set is uid w)
   pub halted : (is : List Instance) (uid : ℕ) (w : Instance) → is_some w.since ≡ false → read (note.Halted uid) (seen is) ≡ seen (slice_set is uid w)
-
-any_end : {A : Type 0} (answer : Result A NodeFault) → IfErr answer (λ f. Unit {0})
-any_end (Ok a) = tt
-any_end (Err f) = tt
 
 module _ {count : ℕ} {read : Note → Bool → Bool} {seen : List Instance → Bool} (follows : Follows count read seen) where
   -- it is so after every part

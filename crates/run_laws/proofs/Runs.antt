@@ -1,5 +1,5 @@
 -- What holds between events holds in each state that a run reaches.
-use Rattle.std.proofs.Common.{◌≡◌, ℕ, ℤ, zero, suc, ◌+◌, ◌<◌, ◌≤◌, List, [], ◌∷◌, length, Option, Some, None, false, option_map, is_some, slice_get, slice_index_or, replicate, Result, Ok, Err, refl, subst, sym, arith}
+use Rattle.std.proofs.Common.{◌≡◌, ℕ, ℤ, zero, suc, ◌+◌, ◌<◌, ◌≤◌, List, [], ◌∷◌, ◌++◌, length, Option, Some, None, false, option_map, is_some, slice_get, slice_index_or, replicate, Result, Ok, Err, refl, ap, subst, sym, arith}
 use Rattle.std.proofs.lemmas.List.{length-replicate}
 use Rattle.std.specs.List.Sorted.{IsNonDecreasingBy}
 use Rattle.spec_run.specs.declared.block.Header.{Header}
@@ -21,6 +21,11 @@ use Rattle.spec_tree.specs.Terms.{node_count}
 use Rattle.run_laws.proofs.Entries.{equal_entry}
 use Rattle.run_laws.proofs.Quenches.{idle_settled, idle_sound, size_is_count}
 use Rattle.run_laws.proofs.Events.{finish_steady, step_steady}
+
+-- a step before two rests that go on alike
+pub before_same : (fault : Option RunFault) (d : Stepped) (f g : RunState → Trace) → f d.state ≡ g d.state → before_rest fault d f ≡ before_rest fault d g
+before_same (Some fault) d f g same = refl
+before_same None d f g same = ap (λ (t : Trace). (let all : Trace = record { blocks = d.block ∷ t.blocks; calls = d.calls ++ t.calls; state = t.state; fault = t.fault } in all)) same
 
 -- ---- The opening state
 

@@ -224,7 +224,7 @@ fn whole_files(rt: HostRuntime) -> Result<(), Fail> {
 }
 
 /// Scripts, with their lines between slashes, and the world of each.
-static ACCEPTED: [(&str, &str); 20] = [
+static ACCEPTED: [(&str, &str); 22] = [
     (
         "fact x -9223372036854775808 / fact y 9223372036854775807",
         "x -9223372036854775808; y 9223372036854775807; [] 1",

@@ -1,7 +1,8 @@
-ghost use Rattle.std.specs.Prelude.{◌≡◌, ◌<◌, [], ◌++◌, IfOk, OnOk, decimal};
+ghost use Rattle.std.specs.Prelude.{◌≡◌, ◌<◌, ◌≤◌, [], ◌++◌, IfOk, OnOk, decimal, length};
 ghost use Rattle.std.specs.Fmt.{signed_decimal};
-ghost use Rattle.std.specs.List.{flat_map};
+ghost use Rattle.std.specs.List.{flat_map, prefix_len};
 ghost use Rattle.spec_output.specs.Lines.{hex_digit, quoted, quoted_byte};
+ghost use Rattle.text_lines.specs.Escaping.{is_plain_in_quotes};
 
 use base_texts::NoMemory;
 use itoa::Buffer;
@@ -53,15 +54,37 @@ pub fn put_quoted(out: &mut Vec<u8>, text: &[u8]) -> Result<(), NoMemory>
     put_bytes(out, b"'")
 }
 
-/// Adds the bytes of a text between single quotes, each escaped where it has to be. The error is
-/// want of memory.
+/// Whether the byte stands for itself in a text between single quotes.
+fn is_plain(byte: u8) -> bool
+    ensures { result ≡ is_plain_in_quotes byte }
+{
+    !(byte == b'\'' || byte == b'\\' || byte < 32)
+}
+
+/// How many bytes at the front stand for themselves.
+#[tactic(auto, using(crate::proofs::Escaping::prefixes))]
+fn plain_len(text: &[u8]) -> usize
+    ensures value { result ≡ prefix_len is_plain_in_quotes text.now }
+    ensures within { result ≤ length text.now }
+{
+    text.iter().take_while(|byte| is_plain(**byte)).count()
+}
+
+/// Adds the bytes of a text between single quotes: what stands for itself is added part by part. The
+/// error is want of memory.
 fn put_escaped(out: &mut Vec<u8>, text: &[u8]) -> Result<(), NoMemory>
     ensures { OnOk result (out.new.items ≡ out.old.items ++ flat_map quoted_byte text.now) }
 {
-    for byte in text {
+    let mut rest = text;
+    'parts: loop {
+        let (plain, marked) = rest.split_at(plain_len(rest));
+        put_bytes(out, plain)?;
+        let Some((byte, more)) = marked.split_first() else {
+            return Ok(());
+        };
         put_byte(out, *byte)?;
+        rest = more;
     }
-    Ok(())
 }
 
 /// Adds a byte of a text between single quotes, escaped where it has to be. The error is want of

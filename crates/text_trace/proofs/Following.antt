@@ -8,14 +8,11 @@ use Rattle.spec_world.specs.declared.world.What.TheVariants.{Tick}
 use Rattle.spec_world.specs.declared.world.World.{World}
 use Rattle.spec_run.specs.Run.{RunState, Stepped, Trace, before_rest, finish, finishes, run_from, step, then_rest}
 use Rattle.spec_run.specs.Served.{Setup}
+use Rattle.run_laws.proofs.Runs.{before_same}
 use Rattle.run_loop.specs.Steps.{CanCome}
 use Rattle.text_trace.specs.Going.{finishes_then}
 use Rattle.spec_output.specs.Rounds.{events_then, fault_in, live_events, nothing_more, round_of, ticks_from}
 use Rattle.text_trace.specs.Traces.{CanAllCome, last_moment}
-
-pub before_same : (fault : Option RunFault) (d : Stepped) (f g : RunState → Trace) → f d.state ≡ g d.state → before_rest fault d f ≡ before_rest fault d g
-before_same (Some fault) d f g same = refl
-before_same None d f g same = ap (λ (t : Trace). (let all : Trace = record { blocks = d.block ∷ t.blocks; calls = d.calls ++ t.calls; state = t.state; fault = t.fault } in all)) same
 
 -- the event that comes next is the first of those that are left
 left_next : (events : List Event) (i : ℕ) (e : Event) → i < length events → e ≡ get_or events i e → drop i events ≡ e ∷ drop (i + 1) events

@@ -84,9 +84,8 @@ impl Draft {
     {
         let known = knows_all(facts, &self.ports, &expr);
         match &mut self.sort {
-            RowSort::Timed { fails, .. } | RowSort::TimedBy { fails, .. } => {
-                set_fails(fails, known, expr)
-            }
+            RowSort::Timed { fails, .. } => set_fails(fails, known, expr),
+            RowSort::TimedBy { fails, .. } => set_fails(fails, known, expr),
             _ => {
                 drop(expr);
                 Err(Stop::Fault(WorldKind::BadLine))

@@ -270,7 +270,7 @@ fn read_timed(
     requires { list_all is_line_byte text.now ≡ true }
     ensures { Leaves result reading.new (AfterForm reading.old (option_and_then (timed_line text.now) (file.head_in row.now))) }
 {
-    if text.starts_with(b"(".as_slice()) {
+    if text.starts_with(b"(") {
         read_length(alloc, reading, row, text)
     } else {
         read_fixed(alloc, reading, row, text)

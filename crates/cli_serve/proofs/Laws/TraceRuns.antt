@@ -163,10 +163,6 @@ module _ (tree : Tree) (world : World) where
   step_same (Change fact value) at s = refl
   step_same (Tell runner uid telling) at s = refl
 
-  before_same : (fault : Option RunFault) (first : Stepped) (rest other : RunState → Trace) → rest first.state ≡ other first.state → before_rest fault first rest ≡ before_rest fault first other
-  before_same (Some f) first rest other same = refl
-  before_same None first rest other same = ap (λ (t : Trace). let whole : Trace = record { blocks = first.block ∷ t.blocks; calls = first.calls ++ t.calls; state = t.state; fault = t.fault } in whole) same
-
   -- a step that is the same, before a rest that is
   then_same : (first other : Stepped) (rest goes : RunState → Trace) → first ≡ other → ((s : RunState) → rest s ≡ goes s) → before_rest first.fault first rest ≡ before_rest other.fault other goes
   then_same first other rest goes is same = before_same first.fault first rest goes (same first.state) ∙ ap (λ (d : Stepped). before_rest d.fault d goes) is

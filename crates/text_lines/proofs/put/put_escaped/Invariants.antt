@@ -1,7 +1,10 @@
-use Rattle.std.proofs.Common.{◌≡◌, ◌++◌, take}
+use Rattle.std.proofs.Common.{◌≡◌, ◌++◌, length}
 use Rattle.std.specs.List.{flat_map}
 use Rattle.spec_output.specs.Lines.{quoted_byte}
 use Rattle.text_lines.proofs.put.put_escaped.Given as goal
 
-abbrev pub invariant-loop-byte : goal.invariant-loop-byte
-invariant-loop-byte l = l.out.items ≡ l.initial.out.items ++ flat_map quoted_byte (take l.byte-index l.text)
+abbrev pub invariant-parts : goal.invariant-parts
+invariant-parts l = l.out.items ++ flat_map quoted_byte l.rest ≡ l.initial.out.items ++ flat_map quoted_byte l.text
+
+abbrev pub decreases-parts : goal.decreases-parts
+decreases-parts l = length l.rest
