@@ -1,5 +1,5 @@
 -- Leaves that are no pair of those that may be held together never are.
-use Rattle.std.proofs.Common.{◌≡◌, ◌⊎◌, ⊎_elim, ℕ, ◌+◌, ◌<◌, ◌≤◌, List, take, Bool, true, false, sym, ap, subst, ◌∙◌}
+use Rattle.std.proofs.Common.{◌≡◌, ◌⊎◌, ⊎_elim, ℕ, ◌+◌, ◌<◌, ◌≤◌, List, take, Bool, true, false, ap, subst, ◌∙◌}
 use Rattle.std.specs.List.{Contains}
 use Rattle.run_laws.proofs.ReadNotes.{read_all}
 use Rattle.spec_dead.specs.Dead.{dead_nodes}

@@ -1,7 +1,6 @@
 -- Two leaves with listed IDs are a pair of those that may be held together, or they are never held together.
-use Rattle.std.proofs.Common.{◌≡◌, ◌⊎◌, ⊎_elim, inl, inr, ℕ, zero, suc, ◌+◌, ◌<◌, ◌≤◌, List, [], ◌∷◌, ◌++◌, map, filter, length, nat_eq, cond, slice_index_or, Bool, true, false, ◌&&◌, ◌||◌, not, refl, sym, ap, subst, ◌∙◌, arith}
+use Rattle.std.proofs.Common.{◌≡◌, ◌⊎◌, ⊎_elim, inl, inr, ℕ, zero, suc, ◌+◌, ◌<◌, ◌≤◌, List, [], ◌∷◌, ◌++◌, map, filter, length, nat_eq, Bool, true, false, ◌&&◌, not, refl, sym, ap, subst, ◌∙◌, arith}
 use Rattle.std.specs.List.{Contains, flat_map, list_any}
-use Rattle.std.specs.Prelude.{sum_by}
 use Rattle.std.proofs.lemmas.Bool.{cond_both, cond-true}
 use Rattle.std.proofs.lemmas.List.{append_assoc, length-append}
 use Rattle.std.proofs.lemmas.List.Elements.{Contains-append_left, Contains-append_right, filter-append}
@@ -113,6 +112,9 @@ module _ (ids : List (List ℕ)) {X : Type 0} (term : X → Term) (each : (c : X
 pub as_many : (ids : List (List ℕ)) (t : Term) → AsMany ids t (meaning t)
 as_many ids = every_term (λ t c rules. AsMany ids t c) (λ X term each node. node_marks ids term each node)
 
+pub many_marks : (ids : List (List ℕ)) (t : Term) → length (listed_marks ids t) ≡ node_count t
+many_marks ids t = as_many ids t ∙ size_is_count t
+
 -- ---- Pairs
 
 module _ (meeting : ℕ → ℕ → Meeting) where
@@ -192,14 +194,24 @@ module _ (tree : Tree) (ids : List (List ℕ)) (u v : ℕ) (has_u : Contains (al
       by Handover e = inr e
       by Together e = absurd (none (subst (λ (m : Meeting). Contains (meeting_pairs ids tree) (pair_of u v m)) e (is_pair lives_u lives_v (ap may_meet e))))
 
+kept_in : (p : ℕ → Bool) (xs : List ℕ) (x : ℕ) → Contains (filter p xs) x → Contains xs x
+kept_in p [] x has = has
+kept_in p (y ∷ ys) x has =
+    cond_both (p y) (y ∷ filter p ys) (filter p ys) (λ (zs : List ℕ). Contains zs x → Contains (y ∷ ys) x)
+    (λ _ has. ⊎_elim (λ same. subst (λ (z : ℕ). Contains (z ∷ ys) x) (sym same) (first_in x ys)) (λ later. later_in y x ys (kept_in p ys x later)) (cases_in y x (filter p ys) has))
+    (λ _ has. later_in y x ys (kept_in p ys x has))
+    has
+
+-- each leaf that is listed is a node of the tree
+pub listed_within : (ids : List (List ℕ)) (tree : Tree) (p : ℕ) → Contains (listed_leaves ids tree) p → p < 1 + node_count tree.term
+listed_within ids tree p has =
+    omega (arith, marked_within 1 (listed_marks ids tree.term) p (kept_in (λ uid. not (is_dead tree uid)) (all_listed ids tree) p has), many_marks ids tree.term)
+
 -- the leaves that are listed rise
 pub listed_rise : (ids : List (List ℕ)) (tree : Tree) → Rising 1 (listed_leaves ids tree)
 listed_rise ids tree = filter_rises (λ uid. not (is_dead tree uid)) 1 (all_listed ids tree) (marked_rises 1 (listed_marks ids tree.term))
 
 -- ---- The leaves of a term
-
-pub many_marks : (ids : List (List ℕ)) (t : Term) → length (listed_marks ids t) ≡ node_count t
-many_marks ids t = as_many ids t ∙ size_is_count t
 
 few_marked : (uid : ℕ) (marks : List Bool) → length (marked uid marks) ≤ length marks
 few_marked uid [] = omega arith
@@ -209,7 +221,7 @@ few_marked uid (false ∷ marks) = omega (arith, few_marked (uid + 1) marks)
 few_kept : (p : ℕ → Bool) (xs : List ℕ) → length (filter p xs) ≤ length xs
 few_kept p [] = omega arith
 few_kept p (x ∷ xs) =
-    cond_both (p x) (x ∷ filter p xs) (filter p xs) (λ (ys : List ℕ). length ys ≤ 1 + length xs)
+    cond_both (p x) (x ∷ filter p xs) (filter p xs) (λ (ys : List ℕ). length ys ≤ suc (length xs))
     (λ _. omega (arith, few_kept p xs))
     (λ _. omega (arith, few_kept p xs))
 

@@ -1,11 +1,12 @@
 -- The pairs of the leaves of a term are those of its first node and of its children in order, and those of a leaf and later
 -- ones are parted by the steps that lead to it.
-use Rattle.std.proofs.Common.{◌≡◌, ◌⊎◌, inl, inr, ℕ, zero, suc, ◌+◌, ◌-◌, ◌<◌, ◌≤◌, List, [], ◌∷◌, ◌++◌, map, take, drop, length, get_or, nat_lt, cond, Bool, true, false, refl, sym, ap, subst, ◌∙◌, arith}
+use Rattle.std.proofs.Common.{◌≡◌, ◌⊎◌, inl, inr, ℕ, zero, suc, ◌+◌, ◌-◌, ◌<◌, ◌≤◌, List, [], ◌∷◌, ◌++◌, map, take, drop, length, get_or, nat_lt, cond, Bool, true, false, Result, Ok, Err, OnOk, refl, sym, ap, subst, ◌∙◌, arith}
+use Rattle.std.specs.List.{Contains}
+use Rattle.std.proofs.Math.Seq.{take-append_seam, take-length}
 use Rattle.std.proofs.lemmas.Bool.{cases_lt, cond_both, cond-true, cond-false, le-ltb, lt-ltb, ltb-false, ltb-true}
 use Rattle.std.specs.List.Sorted.{IsPartitionPoint, IsPartitionedBy}
 use Rattle.std.proofs.lemmas.List.{append-nil, append_assoc, length-append}
 use Rattle.spec_exclusive.specs.declared.meeting.Meeting.{Meeting}
-use Rattle.spec_exclusive.specs.declared.meeting.Meeting.TheVariants.{Never, Handover, Together}
 use Rattle.spec_exclusive.specs.declared.pair.Pair.{Pair}
 use Rattle.spec_exclusive.specs.Meetings.{meeting_at, meetings}
 use Rattle.spec_exclusive.specs.Pairs.{may_meet, pair_of, pairs_among, pairs_with}
@@ -151,7 +152,7 @@ rising_parts least end xs rising i j d low within before =
 -- the first so many of some and of those after them
 pub first_of_both : {A : Type 0} (n : ℕ) (xs ys : List A) → take n xs ++ take (n - length (take n xs)) ys ≡ take n (xs ++ ys)
 first_of_both zero xs ys = refl
-first_of_both (suc n) [] ys = refl
+first_of_both (suc n) [] ys = let left : suc n - 0 ≡ suc n = omega arith in ap (λ (k : ℕ). take k ys) left
 first_of_both (suc n) (x ∷ xs) ys =
     let left : suc n - suc (length (take n xs)) ≡ n - length (take n xs) = omega arith in
     ap (λ (k : ℕ). x ∷ (take n xs ++ take k ys)) left ∙ ap (λ (zs : List _). x ∷ zs) (first_of_both n xs ys)
@@ -178,7 +179,7 @@ none_kept xs rest all many known =
 pub alike : (meeting : Meeting) (u : ℕ) (later : List ℕ) → pairs_with (λ u v. meeting) u later ≡ cond (may_meet meeting) (map (λ v. pair_of u v meeting) later) []
 alike meeting u [] = by (may_meet meeting)
   where
-    by : (b : Bool) → [] ≡ cond b [] []
+    by : (b : Bool) → pairs_with (λ u v. meeting) u [] ≡ cond b (map (λ v. pair_of u v meeting) []) []
     by true = refl
     by false = refl
 alike meeting u (v ∷ later) = by (alike meeting u later) (may_meet meeting) refl
@@ -229,6 +230,54 @@ module _ (step : Step) (steps : List Step) (u : ℕ) where
           ∙ kept (may_meet one)
       by rest false e = outside v (v ∷ later) (ltb-false v step.end e) (omega arith, rising.1)
 
+-- ---- The first of some, and the others
+
+-- all but the first
+abbrev pub others : {A : Type 0} → List A → List A
+others xs = take (length xs - 1) (drop 1 xs)
+
+pub after_first : {A : Type 0} (x : A) (xs : List A) → others (x ∷ xs) ≡ xs
+after_first x xs = let fewer : length (x ∷ xs) - 1 ≡ length xs = omega arith in ap (λ n. take n xs) fewer ∙ take-length xs
+
+-- later leaves are met by the first step, and by the others
+pub with_steps : (steps : List Step) (d : Step) (u : ℕ) (later : List ℕ) → 1 ≤ length steps → Rising 0 later →
+    pairs_with (λ w. by_steps steps) u later
+    ≡ pairs_with (λ w. by_steps (others steps)) u (below (get_or steps 0 d).end later) ++ pairs_with (λ w v. (get_or steps 0 d).meeting) u (beyond (get_or steps 0 d).end later)
+with_steps [] d u later some rising = absurd (omega (arith, some))
+with_steps (step ∷ steps) d u later some rising =
+    by_step step steps u 0 later rising
+    ∙ ap (λ (xs : List Step). pairs_with (λ w. by_steps xs) u (below step.end later) ++ pairs_with (λ w v. step.meeting) u (beyond step.end later)) (sym (after_first step steps))
+
+-- no step leads on
+pub no_steps : (steps : List Step) → length steps < 1 → steps ≡ []
+no_steps [] few = refl
+no_steps (step ∷ steps) few = absurd (omega (arith, few))
+
+-- the pairs of a leaf that comes first
+pub own_pairs : (steps : List Step) (uid : ℕ) (leaves : List ℕ) → 1 ≤ length leaves → get_or leaves 0 0 ≡ uid → Rising uid leaves →
+    pairs_from (λ u. steps) (below (uid + 1) leaves) (beyond (uid + 1) leaves) ≡ pairs_with (λ w. by_steps steps) uid (others leaves)
+own_pairs steps uid [] some is rising = absurd (omega (arith, some))
+own_pairs steps uid (x ∷ xs) some is rising =
+    let inside : nat_lt x (uid + 1) ≡ true = lt-ltb x (uid + 1) (omega (arith, is)) in
+    let none : below (uid + 1) xs ≡ [] = none_below (x + 1) (uid + 1) xs (omega (arith, is)) rising.1 in
+    let all : beyond (uid + 1) xs ≡ xs = all_beyond (x + 1) (uid + 1) xs (omega (arith, is)) rising.1 in
+    ap (λ (us : List ℕ). pairs_from (λ u. steps) us (beyond (uid + 1) (x ∷ xs))) (cond-true (nat_lt x (uid + 1)) (x ∷ below (uid + 1) xs) [] inside ∙ ap (λ (us : List ℕ). x ∷ us) none)
+    ∙ ap (λ (us : List ℕ). pairs_from (λ u. steps) (x ∷ []) us) (cond-true (nat_lt x (uid + 1)) (beyond (uid + 1) xs) (x ∷ xs) inside ∙ all)
+    ∙ append-nil (pairs_with (λ w. by_steps steps) x xs)
+    ∙ ap (λ (u : ℕ). pairs_with (λ w. by_steps steps) u xs) is
+    ∙ ap (λ (us : List ℕ). pairs_with (λ w. by_steps steps) uid us) (sym (after_first x xs))
+
+-- the last one leaves
+pub popped : {A : Type 0} (xs ys : List A) (x : A) → ys ≡ xs ++ (x ∷ []) → take (length ys - 1) ys ≡ xs
+popped xs ys x is =
+    let many : length ys - 1 ≡ length xs = omega (arith, ap length is, length-append xs (x ∷ [])) in
+    ap (λ (n : ℕ). take n ys) many ∙ ap (λ (zs : List _). take (length xs) zs) is ∙ take-append_seam xs (x ∷ [])
+
+-- what follows from the value of an answer
+pub on_ok : {A E : Type 0} {P Q : Type 0} (r : Result A E) → (P → Q) → OnOk r P → OnOk r Q
+on_ok (Ok a) f p = f p
+on_ok (Err e) f p = tt
+
 -- ---- Leaves in order
 
 pub from_append : (steps : ℕ → List Step) (us ws after : List ℕ) → pairs_from steps (us ++ ws) after ≡ pairs_from steps us (ws ++ after) ++ pairs_from steps ws after
@@ -277,6 +326,27 @@ among t least (u ∷ us) rising =
     ∙ ap (λ (ps : List Pair). ps ++ pairs_from (λ w. (ways t).steps 1 w) us [])
     (with_same (λ w. by_steps ((ways t).steps 1 w)) ((meetings t).meeting 1) u (u + 1) us (omega arith) rising.1 (λ v less. (same t).meets 1 u v less))
     ∙ ap (λ (ps : List Pair). pairs_with ((meetings t).meeting 1) u us ++ ps) (among t (u + 1) us rising.1)
+
+-- all leaves come before a uid
+pub all_below : (end : ℕ) (xs : List ℕ) → ((p : ℕ) → Contains xs p → p < end) → below end xs ≡ xs
+all_below end [] before = refl
+all_below end (x ∷ xs) before =
+    cond-true (nat_lt x end) (x ∷ below end xs) [] (lt-ltb x end (before x (zero, omega arith, refl)))
+    ∙ ap (λ (ys : List ℕ). x ∷ ys) (all_below end xs (λ p has. before p (suc has.0, omega (arith, has.1), has.2)))
+
+pub none_beyond : (end : ℕ) (xs : List ℕ) → ((p : ℕ) → Contains xs p → p < end) → beyond end xs ≡ []
+none_beyond end [] before = refl
+none_beyond end (x ∷ xs) before =
+    cond-true (nat_lt x end) (beyond end xs) (x ∷ xs) (lt-ltb x end (before x (zero, omega arith, refl)))
+    ∙ none_beyond end xs (λ p has. before p (suc has.0, omega (arith, has.1), has.2))
+
+-- the pairs of all leaves of a term that rise from 1
+pub whole_pairs : (t : Term) (end : ℕ) (leaves : List ℕ) → Rising 1 leaves → ((p : ℕ) → Contains leaves p → p < end) →
+    pairs_from (steps_after [] 1 t) (below end leaves) (beyond end leaves) ≡ pairs_among ((meetings t).meeting 1) leaves
+whole_pairs t end leaves rising before =
+    ap (λ (us : List ℕ). pairs_from (steps_after [] 1 t) us (beyond end leaves)) (all_below end leaves before)
+    ∙ ap (λ (us : List ℕ). pairs_from (steps_after [] 1 t) leaves us) (none_beyond end leaves before)
+    ∙ among t 1 leaves rising
 
 -- ---- A node and its children
 

@@ -1,5 +1,5 @@
 -- The steps of the search for pairs, for private functions alone.
-use Rattle.std.specs.Prelude.{ℕ, ◌+◌, ◌≡◌, ◌≤◌, List, [], ◌∷◌, ◌++◌, filter, length, map, take, nat_eq, nat_lt, not, Bool, if◌then◌else◌, sum_by}
+use Rattle.std.specs.Prelude.{ℕ, ◌+◌, ◌≡◌, ◌≤◌, List, [], ◌∷◌, ◌++◌, filter, length, take, nat_eq, nat_lt, not, Bool, if◌then◌else◌, sum_by}
 use Rattle.std.specs.List.{list_any}
 use Rattle.spec_exclusive.specs.declared.meeting.Meeting.{Meeting}
 use Rattle.spec_exclusive.specs.declared.meeting.Meeting.TheVariants.{Together}

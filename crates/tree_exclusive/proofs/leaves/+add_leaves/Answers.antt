@@ -1,4 +1,4 @@
-use Rattle.std.proofs.Common.{drop}
+use Rattle.std.proofs.Common.{◌+◌, drop}
 use Rattle.tree_dead.proofs.Marked.{count_more, terms_here}
 use Rattle.tree_exclusive.proofs.Listed.{leaves_more}
 use Rattle.tree_exclusive.proofs.leaves.+add_leaves.Goals as goal

@@ -1,4 +1,5 @@
-use Rattle.std.proofs.Common.{◌+◌, ◌++◌, List, [], map, take, length, length-append, length-map, append-nil, ap, sym, subst, ◌∙◌, arith}
+use Rattle.std.proofs.Common.{◌+◌, ◌-◌, ◌++◌, List, map, take, length, length-append, append-nil, ap, sym, subst, ◌∙◌, arith}
+use Rattle.std.proofs.lemmas.List.{length-map}
 use Rattle.std.proofs.lemmas.Bool.{cond-false, cond-true}
 use Rattle.spec_exclusive.specs.declared.pair.Pair.{Pair}
 use Rattle.spec_exclusive.specs.Pairs.{pair_of}
