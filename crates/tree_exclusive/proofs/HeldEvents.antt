@@ -24,14 +24,14 @@ use Rattle.tree_exclusive.proofs.Held.{follows_leaf, held, there}
 use Rattle.tree_exclusive.proofs.HeldSteps.{Tells, idle_tells, own_runner, set_runner, told_tells}
 
 -- the instances of other nodes stay
-stays : {uid size : ℕ} {s0 s1 : State} → Within uid size s0 s1 → (p : ℕ) → (p < uid) ⊎ (uid + size ≤ p) → slice_get s1.instances p ≡ slice_get s0.instances p
+pub stays : {uid size : ℕ} {s0 s1 : State} → Within uid size s0 s1 → (p : ℕ) → (p < uid) ⊎ (uid + size ≤ p) → slice_get s1.instances p ≡ slice_get s0.instances p
 stays w p out = ⊎_elim (λ low. w.below p low) (λ high. w.above p high) out
 
 module _ (tree : Tree) (world : World) (s : RunState) (steady : RunSteady tree.term world.rows s) (at : ℕ) (ahead : s.last ≤ at) where
   abbrev view : View
   view = root_view tree world
 
-  now : (by : ℕ) (x : Runner) → runner_at s by ≡ Some x → Steady tree.term world.rows x.memory (state_of x s.facts at)
+  pub now : (by : ℕ) (x : Runner) → runner_at s by ≡ Some x → Steady tree.term world.rows x.memory (state_of x s.facts at)
   now by x is = later_steady tree world.rows s steady at ahead s.facts (by - 1) x is
 
   tick_tells : (o : Option Runner) (by : ℕ) → 1 ≤ by → runner_at s by ≡ o → Tells tree s (tick_step o tree world by at s)
