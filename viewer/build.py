@@ -65,8 +65,8 @@ def page(data):
     The whole page that shows this data when it is opened. The data are texts by name, as the program printed and read
     them: `tree` and `trace`, or `plan` and `trace`, or `refusal`; and `world`, `source` (the tree file), `said`
     (the program's standard error), `names` (of the tree and of the world) and `exit` (the status). `other` is the
-    trace of another run of the tree, and `live` where the lines of the trace come from later. Without data the page
-    asks for files.
+    trace of another run of the tree, `groups` are lists of IDs whose leaves are not to be held together, and `live` is
+    there where the lines of the trace come from later. Without data the page asks for files.
     """
     before, after = inlined(text_of("page.html")).split('id="run-data">', 1)
     return f'{before}id="run-data">{embedded(data) if data else ""}{after}'

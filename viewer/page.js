@@ -3,6 +3,7 @@ import * as Address from "./address.js";
 import * as Compare from "./compare.js";
 import * as Dom from "./dom.js";
 import * as Drawing from "./drawing.js";
+import * as Groups from "./groups.js";
 import * as Lists from "./lists.js";
 import * as Lives from "./live.js";
 import * as Messages from "./messages.js";
@@ -35,6 +36,7 @@ class Page {
     this.follow = true;
     this.comparison = null;
     this.live = null;
+    this.groups = null;
     this.player = new Playing.Player(this);
     const actions = {
       go: (count) => this.go(count),
@@ -93,6 +95,7 @@ class Page {
     if (this.whole) this.whole.expected = data.expected ?? [];
     this.other = data.other === undefined ? null : this.readOther(tree, world, data.other);
     this.source = null;
+    this.groups = data.groups?.length > 0 && this.whole ? new Groups.Groups(this.whole, data.groups) : null;
   }
 
   readOther(tree, world, text) {
@@ -271,6 +274,7 @@ class Page {
     if (this.follow && runner > 0 && runner !== this.runner) this.setRunner(runner, false);
     byId("event-words").hidden = true;
     if (this.follow && this.tree.folds.own.size > 0) this.tree.openFor(this.busyNodes(count));
+    this.showClashes();
     this.tree.show(count, this.runner);
     this.comparison?.show(count, this.runner);
     this.events.show(run, count);
@@ -279,6 +283,11 @@ class Page {
     this.node.follow(count);
     if (this.follow && count > 0) this.revealEvent(count - 1);
     this.announce(count);
+  }
+
+  /** Marks the leaves of a declared group that are held together. */
+  showClashes() {
+    if (this.groups && this.phase === "run") this.tree.clashes = this.groups.show(this.count, this.runner);
   }
 
   /** The leaves that run after so many events, and those that the last one called. */
@@ -376,6 +385,7 @@ class Page {
     this.showRunners();
     this.node.show(this.run, this.selected, runner);
     if (!redraw) return;
+    this.showClashes();
     this.tree.show(this.count, runner);
     this.values.show(this.run, this.count, runner);
     this.timeline.show(this.count, runner);

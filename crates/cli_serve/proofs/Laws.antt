@@ -1,7 +1,5 @@
-pub mod Held
 pub mod HeldEvents
 pub mod HeldRuns
-pub mod HeldSteps
 pub mod Opened
 pub mod Served
 pub mod Taken

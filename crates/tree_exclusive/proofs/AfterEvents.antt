@@ -1,6 +1,6 @@
 -- Two leaves of a runner that are apart in each state between events are apart in what the notes of whole blocks say.
-use Rattle.std.proofs.Common.{◌≡◌, ⊎_elim, ℕ, zero, suc, ◌+◌, ◌-◌, ◌<◌, ◌≤◌, List, [], ◌∷◌, ◌++◌, take, drop, length, Bool, true, false, slice_get, Option, Some, None, refl, sym, ap, subst, ◌∙◌, arith}
-use Rattle.std.specs.List.{AllByRecursion, flat_map}
+use Rattle.std.proofs.Common.{◌≡◌, ℕ, zero, suc, ◌+◌, ◌<◌, ◌≤◌, List, [], ◌∷◌, ◌++◌, take, true, slice_get, Option, Some, None, refl, sym, ap, subst, ◌∙◌, arith}
+use Rattle.std.specs.List.{AllByRecursion}
 use Rattle.base_tables.specs.Sound.{RunSteady}
 use Rattle.run_laws.proofs.Events.{finish_steady, step_steady}
 use Rattle.run_laws.proofs.ReadNotes.{read_all, read_both}
@@ -11,7 +11,7 @@ use Rattle.spec_run.specs.declared.block.Block.{Block}
 use Rattle.spec_run.specs.declared.fault.RunFault.{RunFault}
 use Rattle.spec_run.specs.Run.{RunState, Runner, Stepped, Trace, before_rest, finish, finishes, opening, run_from, run_over, state_of, step}
 use Rattle.spec_run.specs.Visit.{meaning}
-use Rattle.spec_serve.specs.Traces.{Noted, noted_in}
+use Rattle.spec_serve.specs.Traces.{noted_in}
 use Rattle.spec_tree.specs.declared.term.Tree.{Tree}
 use Rattle.spec_world.specs.declared.world.Event.{Event}
 use Rattle.spec_world.specs.declared.world.World.{World}

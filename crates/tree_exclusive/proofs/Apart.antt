@@ -1,15 +1,12 @@
 -- Two leaves that are never both held, read from the notes of parts of an event.
-use Rattle.std.proofs.Common.{◌≡◌, ◌⊎◌, ℕ, ◌+◌, ◌<◌, ◌≤◌, List, [], ◌∷◌, ◌++◌, nat_eq, cond, Bool, true, false, ◌&&◌, refl, sym, ap, subst, ◌∙◌, arith}
-use Rattle.std.proofs.lemmas.Bool.{cond_both, eq-eqb, ne_eqb}
-use Rattle.run_laws.proofs.ReadNotes.{read_all, read_both}
+use Rattle.std.proofs.Common.{◌≡◌, ℕ, List, [], ◌∷◌, ◌++◌, nat_eq, cond, Bool, true, false, ◌&&◌, refl, sym, ◌∙◌}
+use Rattle.std.proofs.lemmas.Bool.{ne_eqb}
+use Rattle.run_laws.proofs.ReadNotes.{read_all}
 use Rattle.spec_run.specs.declared.note.Note.{Note}
-use Rattle.spec_run.specs.declared.note.Note.TheVariants as note
-use Rattle.spec_run.specs.declared.status.Answer.{Answer}
 use Rattle.spec_run.specs.declared.status.Status.{Status}
 use Rattle.spec_run.specs.declared.status.Status.TheVariants as status
-use Rattle.spec_run.specs.Done.{State}
 use Rattle.spec_run.specs.Visit.{change}
-use Rattle.tree_exclusive.proofs.Held.{held_among, read_leaf}
+use Rattle.tree_exclusive.proofs.Held.{read_leaf}
 
 -- in the events of this runner
 module _ (runner : ℕ) where

@@ -1,5 +1,5 @@
 -- Leaves that are no pair of those that may be held together never are.
-use Rattle.std.proofs.Common.{◌≡◌, ◌⊎◌, ⊎_elim, ℕ, ◌+◌, ◌<◌, ◌≤◌, List, take, Bool, true, false, sym, ap, subst, ◌∙◌}
+use Rattle.std.proofs.Common.{◌≡◌, ◌⊎◌, ⊎_elim, ℕ, ◌+◌, ◌<◌, ◌≤◌, List, take, Bool, true, false, ap, subst, ◌∙◌}
 use Rattle.std.specs.List.{Contains}
 use Rattle.run_laws.proofs.ReadNotes.{read_all}
 use Rattle.spec_dead.specs.Dead.{dead_nodes}
@@ -16,7 +16,7 @@ use Rattle.spec_world.specs.declared.world.Event.{Event}
 use Rattle.spec_world.specs.declared.world.World.{World}
 use Rattle.tree_dead.specs.Runs.{IsNeverNamed, LeavesHaveRows}
 use Rattle.tree_dead.proofs.Unvisited.{notes_law}
-use Rattle.tree_exclusive.specs.Runs.{AreInOrder, NeverTogether, NotTogetherAfterEvents, noted_of}
+use Rattle.tree_exclusive.specs.Runs.{AreApart, AreInOrder, NeverTogether, NotTogetherAfterEvents, noted_of}
 use Rattle.tree_exclusive.proofs.AfterEvents.{whole_ends}
 use Rattle.tree_exclusive.proofs.Held.{held, read_noted}
 use Rattle.tree_exclusive.proofs.Listed.{Dead, DeadToo, Living, Standing, hands_over, is_dead, meets, never_meets, standing, within}
@@ -72,3 +72,10 @@ module _ (tree : Tree) (world : World) (valid : IsValid tree) (rows : LeavesHave
         by (Dead e) = after_events runner u v blocks (first_unnamed runner u v blocks (unnamed u e))
         by (DeadToo e) = after_events runner u v blocks (second_unnamed runner u v blocks (unnamed v e))
         by (Living e f) = living (hands_over tree ids u v has_u has_v less e f none)
+
+-- all leaves with listed IDs are apart but for the pairs that may be held together
+pub all_apart : (tree : Tree) → IsValid tree → (ids : List (List ℕ)) → AreApart ids tree (meeting_pairs ids tree)
+all_apart tree valid ids = record {
+  moments = λ world rows events order runner u v are none. never_together tree world valid rows events order runner ids u v are.first are.second are.order none;
+  between = λ world rows events order runner u v are none. not_after_events tree world valid rows events order runner ids u v are.first are.second are.order none;
+}

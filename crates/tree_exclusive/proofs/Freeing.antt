@@ -1,5 +1,5 @@
 -- A reset only frees leaves, and only those of its nodes.
-use Rattle.std.proofs.Common.{◌≡◌, ◌⊎◌, ⊎_elim, inl, inr, ℕ, ◌+◌, ◌<◌, ◌≤◌, List, [], ◌∷◌, ◌++◌, map, nat_eq, cond, Bool, true, false, ◌&&◌, Result, Ok, Err, refl, sym, ap, subst, ◌∙◌, arith}
+use Rattle.std.proofs.Common.{◌≡◌, ⊎_elim, inl, inr, ℕ, ◌+◌, ◌≤◌, List, [], ◌∷◌, ◌++◌, map, nat_eq, false, ◌&&◌, Result, Ok, Err, refl, sym, subst, arith}
 use Rattle.std.specs.List.{AllByRecursion}
 use Rattle.std.proofs.lemmas.Bool.{cond_both}
 use Rattle.std.proofs.lemmas.List.Sums.{sum_by-cons}
@@ -15,8 +15,8 @@ use Rattle.spec_run.specs.declared.status.Status.TheVariants as status
 use Rattle.spec_run.specs.Done.{Done, State, carried, done, follow}
 use Rattle.spec_run.specs.NodeScripts.{script_if_there}
 use Rattle.spec_run.specs.Sites.{Meaning, Site, View, child_of, children_from, children_of, memory_at, remembered, sizes, view_below}
-use Rattle.spec_run.specs.Steps.{Child, reset_within, resets, spans}
-use Rattle.spec_run.specs.Visit.{change, cleared, halt, halt_calls, halt_notes, halt_state, halted, meaning, reset_by, site_of}
+use Rattle.spec_run.specs.Steps.{reset_within, resets, spans}
+use Rattle.spec_run.specs.Visit.{cleared, halt, halt_notes, halt_state, halted, meaning, reset_by, site_of}
 use Rattle.spec_tree.specs.declared.term.Kind.{Kind}
 use Rattle.spec_tree.specs.declared.term.Kind.TheVariants.{Leaf}
 use Rattle.spec_tree.specs.declared.term.Term.{Term, Term-F}

@@ -1,15 +1,14 @@
 -- Leaves that one child hands over to another one are not both held where the rules of states hold.
-use Rattle.std.proofs.Common.{◌≡◌, ◌⊎◌, ⊎_elim, inl, inr, ℕ, zero, suc, ◌+◌, ◌<◌, ◌≤◌, List, [], ◌∷◌, map, nat_lt, cond, Bool, true, false, Option, None, Some, refl, sym, ap, subst, ◌∙◌, arith}
+use Rattle.std.proofs.Common.{◌≡◌, ◌⊎◌, ⊎_elim, inl, inr, ℕ, zero, suc, ◌+◌, ◌<◌, ◌≤◌, List, [], ◌∷◌, nat_lt, cond, Bool, true, false, Option, None, refl, sym, ap, subst, ◌∙◌, arith}
 use Rattle.std.proofs.lemmas.Bool.{cases_eq, cases_lt, cond-false, cond-true, le-ltb, lt-ltb, ltb-true}
-use Rattle.base_tables.specs.Shapes.{AllIdle, OneRuns, RestingShape, RunningShape, Shape, is_running, status_at}
-use Rattle.base_tables.specs.Sound.{NodeRule, Sound, States, states_of_node, statuses}
-use Rattle.run_laws.proofs.Children.{SoundAll, status_in}
-use Rattle.run_laws.proofs.Induction.{above, every_term, node_means}
+use Rattle.base_tables.specs.Shapes.{OneRuns, RestingShape, RunningShape, Shape, is_running, status_at}
+use Rattle.base_tables.specs.Sound.{Sound, States, states_of_node, statuses}
+use Rattle.run_laws.proofs.Children.{SoundAll}
+use Rattle.run_laws.proofs.Induction.{every_term, node_means}
 use Rattle.run_laws.proofs.KindRules.{rests_idle, rests_whole}
-use Rattle.run_laws.proofs.Visits.{resting_shape}
 use Rattle.spec_exclusive.specs.declared.meeting.Meeting.{Meeting}
 use Rattle.spec_exclusive.specs.declared.meeting.Meeting.TheVariants.{Handover, Together}
-use Rattle.spec_exclusive.specs.Meetings.{Meetings, meeting_at, meeting_below, meetings, meetings_of_node}
+use Rattle.spec_exclusive.specs.Meetings.{Meetings, meeting_at, meetings, meetings_of_node}
 use Rattle.spec_run.specs.declared.memory.Memo.{Memo}
 use Rattle.spec_run.specs.declared.memory.Memo.TheVariants.{Index}
 use Rattle.spec_run.specs.declared.memory.Memory.{Memory, out-Memory}

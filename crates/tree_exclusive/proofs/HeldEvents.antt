@@ -1,47 +1,37 @@
 -- The notes of each event, and of the finish of each runner, say which leaves are held after it; a finish frees its runner's.
-use Rattle.std.proofs.Common.{◌≡◌, ◌⊎◌, inl, inr, ⊎_elim, ℕ, ◌+◌, ◌-◌, ◌<◌, ◌≤◌, List, [], ◌∷◌, length, nat_eq, cond, Bool, false, slice_get, slice_index_or, slice_set, is_some, option_map, zero, suc, Option, Some, None, Result, Ok, Err, refl, sym, ap, ◌∙◌, arith}
-use Rattle.std.proofs.lemmas.Bool.{cases_lt, eq-eqb, ne_eqb}
+use Rattle.std.proofs.Common.{◌≡◌, ◌⊎◌, ⊎_elim, ℕ, ◌+◌, ◌-◌, ◌<◌, ◌≤◌, length, nat_eq, cond, Bool, slice_get, slice_index_or, slice_set, Option, Some, None, refl, sym, ap, ◌∙◌, arith}
 use Rattle.std.proofs.lemmas.List.{length-set}
-use Rattle.base_tables.specs.Shapes.{is_running}
-use Rattle.base_tables.specs.Sound.{Left, RunSteady, Sound, Steady, Within}
-use Rattle.run_laws.proofs.Children.{status_in}
+use Rattle.base_tables.specs.Sound.{RunSteady, Steady, Within}
 use Rattle.run_laws.proofs.Events.{later_steady, root_reset_leaves, ticked_leaves}
 use Rattle.run_laws.proofs.Instances.{held_by_since, told_since}
-use Rattle.run_laws.proofs.Keeping.{term_keeps}
-use Rattle.run_laws.proofs.Quiet.{rests_hold_nothing}
 use Rattle.run_laws.proofs.ReadNotes.{reset_reads, tick_reads}
 use Rattle.spec_run.specs.declared.block.Header.{Header}
 use Rattle.spec_run.specs.declared.block.Header.TheVariants as header
-use Rattle.spec_run.specs.declared.fault.NodeFault.{NodeFault}
-use Rattle.spec_run.specs.declared.leaf.Instance.{Instance}
 use Rattle.spec_run.specs.declared.memory.Memory.{Memory}
 use Rattle.spec_run.specs.declared.status.Answer.{Answer}
-use Rattle.spec_run.specs.declared.status.Status.TheVariants.{Idle}
 use Rattle.spec_run.specs.Done.{Call, Done, State}
 use Rattle.spec_run.specs.Leaf.{fresh}
-use Rattle.spec_run.specs.Run.{RunState, Runner, called, finish, reset_step, root_reset, root_view, runner_at, state_of, step_by, tell_call, tell_step, tick_step, ticked, told, with_runner}
+use Rattle.spec_run.specs.Run.{RunState, Runner, called, finish, reset_step, root_reset, root_view, runner_at, state_of, step_by, tell_call, tell_step, tick_step, ticked}
 use Rattle.spec_run.specs.Sites.{View}
-use Rattle.spec_run.specs.Visit.{meaning}
 use Rattle.spec_serve.specs.Inputs.{runner_of}
 use Rattle.spec_tree.specs.declared.term.Tree.{Tree}
-use Rattle.spec_world.specs.declared.world.Event.{Event}
 use Rattle.spec_world.specs.declared.world.Telling.{Telling}
 use Rattle.spec_world.specs.declared.world.What.{What}
 use Rattle.spec_world.specs.declared.world.What.TheVariants.{Tick, Halt, Change, Tell}
 use Rattle.spec_world.specs.declared.world.World.{World}
 use Rattle.tree_exclusive.specs.Runs.{NamesRunner}
-use Rattle.tree_exclusive.proofs.Held.{follows_leaf, held, held_among, held_by, there}
-use Rattle.tree_exclusive.proofs.HeldSteps.{HoldsInside, Tells, held_here, idle_tells, own_runner, set_runner, told_tells}
+use Rattle.tree_exclusive.proofs.Held.{follows_leaf, held, there}
+use Rattle.tree_exclusive.proofs.HeldSteps.{Tells, idle_tells, own_runner, set_runner, told_tells}
 
 -- the instances of other nodes stay
-stays : {uid size : ℕ} {s0 s1 : State} → Within uid size s0 s1 → (p : ℕ) → (p < uid) ⊎ (uid + size ≤ p) → slice_get s1.instances p ≡ slice_get s0.instances p
+pub stays : {uid size : ℕ} {s0 s1 : State} → Within uid size s0 s1 → (p : ℕ) → (p < uid) ⊎ (uid + size ≤ p) → slice_get s1.instances p ≡ slice_get s0.instances p
 stays w p out = ⊎_elim (λ low. w.below p low) (λ high. w.above p high) out
 
 module _ (tree : Tree) (world : World) (s : RunState) (steady : RunSteady tree.term world.rows s) (at : ℕ) (ahead : s.last ≤ at) where
   abbrev view : View
   view = root_view tree world
 
-  now : (by : ℕ) (x : Runner) → runner_at s by ≡ Some x → Steady tree.term world.rows x.memory (state_of x s.facts at)
+  pub now : (by : ℕ) (x : Runner) → runner_at s by ≡ Some x → Steady tree.term world.rows x.memory (state_of x s.facts at)
   now by x is = later_steady tree world.rows s steady at ahead s.facts (by - 1) x is
 
   tick_tells : (o : Option Runner) (by : ℕ) → 1 ≤ by → runner_at s by ≡ o → Tells tree s (tick_step o tree world by at s)

@@ -1,7 +1,6 @@
 -- The rule of every kind leaves the leaves apart that are never held together.
-use Rattle.std.proofs.Common.{◌≡◌, ⊎_elim, ℕ, zero, suc, ◌+◌, ◌-◌, ◌<◌, ◌≤◌, List, Bool, true, false, ◌||◌, not, if◌then◌else◌, cond, nat_eq, nat_lt, Option, Some, None, length, refl, sym, ap, subst, ◌∙◌, arith}
+use Rattle.std.proofs.Common.{◌≡◌, ⊎_elim, ℕ, zero, suc, ◌+◌, ◌-◌, ◌≤◌, List, Bool, true, false, ◌||◌, not, if◌then◌else◌, cond, nat_eq, nat_lt, Option, Some, None, refl, ap, subst, ◌∙◌, arith}
 use Rattle.std.proofs.lemmas.Bool.{cases_eq, cases_lt, cond_both, eqb-true, ne_eqb}
-use Rattle.base_tables.specs.Moves.{place_at_hand}
 use Rattle.base_tables.specs.Shapes.{AllIdle, IdleFrom, OneRuns, BranchRuns, is_running, status_at}
 use Rattle.run_laws.proofs.Acts.{Changed, others}
 use Rattle.run_laws.proofs.Beginnings.{Begins}
@@ -26,16 +25,16 @@ use Rattle.spec_run.specs.declared.status.RoundEnd.TheVariants.{AtChild, AfterLa
 use Rattle.spec_run.specs.declared.status.Status.{Status}
 use Rattle.spec_run.specs.declared.status.Status.TheVariants as status
 use Rattle.spec_run.specs.Rules.Answers.{is_seen, pass_on, same_answer}
-use Rattle.spec_run.specs.Rules.Choices.{chosen_branch, chosen_of, if_then_else, if_then_else_after, only_branch, switch, while_do_else, while_do_else_after}
-use Rattle.spec_run.specs.Rules.Decorators.{as_it_is, child_as, delay, forced, inverted, is_late, keep_running, keep_running_after, mark_of, run_once, run_once_after, since_of, timeout}
+use Rattle.spec_run.specs.Rules.Choices.{chosen_branch, if_then_else, if_then_else_after, only_branch, switch, while_do_else, while_do_else_after}
+use Rattle.spec_run.specs.Rules.Decorators.{as_it_is, child_as, forced, inverted, is_late, keep_running_after, run_once, run_once_after}
 use Rattle.spec_run.specs.Rules.Kinds.{rule}
-use Rattle.spec_run.specs.Rules.Parallels.{counted, counts_of, failure_holds, parallel, parallel_after, parallel_end, success_holds}
-use Rattle.spec_run.specs.Rules.Pipelines.{pipeline, pipeline_after, pipeline_end, pipeline_runs}
-use Rattle.spec_run.specs.Rules.Rates.{is_due, pace_of, rate_after, rate_controller}
-use Rattle.spec_run.specs.Rules.Recoveries.{attempt, attempt_after, attempt_on, one_recovered, recover, recoveries_left, recoveries_of, recovery_after, recovery_node}
-use Rattle.spec_run.specs.Rules.RoundRobins.{next_of, passed_by, robin_after, robin_end, robin_on, rotation_at, rotation_of, round_robin}
-use Rattle.spec_run.specs.Rules.Sequences.{index_of, passes, reactive_end, round, round_after, seen_of, sequence_end, with_memory_end}
-use Rattle.spec_run.specs.Rules.Turns.{limit_of, one_more, turn_after, turn_again, turns, turns_of, turns_on}
+use Rattle.spec_run.specs.Rules.Parallels.{counted, failure_holds, parallel, parallel_after, success_holds}
+use Rattle.spec_run.specs.Rules.Pipelines.{pipeline, pipeline_after, pipeline_end}
+use Rattle.spec_run.specs.Rules.Rates.{is_due, rate_after, rate_controller}
+use Rattle.spec_run.specs.Rules.Recoveries.{attempt, attempt_after, attempt_on, one_recovered, recover, recoveries_left, recovery_after, recovery_node}
+use Rattle.spec_run.specs.Rules.RoundRobins.{next_of, passed_by, robin_after, robin_on, rotation_at, round_robin}
+use Rattle.spec_run.specs.Rules.Sequences.{passes, reactive_end, round, round_after, sequence_end, with_memory_end}
+use Rattle.spec_run.specs.Rules.Turns.{limit_of, one_more, turn_after, turn_again, turns, turns_on}
 use Rattle.spec_run.specs.Sites.{View}
 use Rattle.spec_run.specs.Steps.{Rule, is_completed, keep, over, reset, spans, visit, visit_or_pass}
 use Rattle.spec_run.specs.Visit.{status_of}

@@ -15,5 +15,6 @@ pub mod Said
 pub mod Silent
 pub mod Terms
 pub mod Visits
+pub mod Walks
 pub mod Ways
 pub mod Words

@@ -1,12 +1,12 @@
 -- Two leaves with listed IDs are a pair of those that may be held together, or they are never held together.
-use Rattle.std.proofs.Common.{◌≡◌, ◌⊎◌, ⊎_elim, inl, inr, ℕ, zero, suc, ◌+◌, ◌<◌, ◌≤◌, List, [], ◌∷◌, ◌++◌, map, filter, length, nat_eq, cond, slice_index_or, Bool, true, false, ◌&&◌, ◌||◌, not, refl, sym, ap, subst, ◌∙◌, arith}
+use Rattle.std.proofs.Common.{◌≡◌, ◌⊎◌, ⊎_elim, inl, inr, ℕ, zero, suc, ◌+◌, ◌<◌, ◌≤◌, List, [], ◌∷◌, ◌++◌, map, filter, length, nat_eq, Bool, true, false, ◌&&◌, not, refl, sym, ap, subst, ◌∙◌, arith}
 use Rattle.std.specs.List.{Contains, flat_map, list_any}
-use Rattle.std.specs.Prelude.{sum_by}
 use Rattle.std.proofs.lemmas.Bool.{cond_both, cond-true}
-use Rattle.std.proofs.lemmas.List.{length-append}
-use Rattle.std.proofs.lemmas.List.Elements.{Contains-append_left, Contains-append_right}
+use Rattle.std.proofs.lemmas.List.{append_assoc, length-append}
+use Rattle.std.proofs.lemmas.List.Elements.{Contains-append_left, Contains-append_right, filter-append}
 use Rattle.std.proofs.lemmas.List.Sums.{sum_by-cons}
 use Rattle.run_laws.proofs.Induction.{above, every_term, map_twice, node_means}
+use Rattle.run_laws.proofs.Quenches.{size_is_count}
 use Rattle.spec_dead.specs.Dead.{dead_nodes}
 use Rattle.spec_exclusive.specs.declared.meeting.Meeting.{Meeting}
 use Rattle.spec_exclusive.specs.declared.meeting.Meeting.TheVariants.{Never, Handover, Together}
@@ -18,7 +18,8 @@ use Rattle.spec_run.specs.Visit.{meaning}
 use Rattle.spec_tree.specs.declared.term.Term.{Term, Term-F, fold-roll-Term}
 use Rattle.spec_tree.specs.declared.term.Term.TheFolds.{map-Term}
 use Rattle.spec_tree.specs.declared.term.Tree.{Tree}
-use Rattle.tree_exclusive.specs.Steps.{Rising}
+use Rattle.spec_tree.specs.Terms.{node_count}
+use Rattle.tree_exclusive.specs.Steps.{Rising, living_marked}
 use Rattle.tree_exclusive.proofs.Words.{NeverIn}
 
 -- ---- What is among the elements of a list
@@ -108,8 +109,11 @@ module _ (ids : List (List ℕ)) {X : Type 0} (term : X → Term) (each : (c : X
       let one_more : suc (length (flat_map (λ marks. marks) (map (λ c. listed_marks ids (term c)) node.children))) ≡ 1 + sizes (map (λ c. meaning (term c)) node.children) = omega (arith, below) in
       ap length (sym (marks_of_terms node)) ∙ one_more
 
-as_many : (ids : List (List ℕ)) (t : Term) → AsMany ids t (meaning t)
+pub as_many : (ids : List (List ℕ)) (t : Term) → AsMany ids t (meaning t)
 as_many ids = every_term (λ t c rules. AsMany ids t c) (λ X term each node. node_marks ids term each node)
+
+pub many_marks : (ids : List (List ℕ)) (t : Term) → length (listed_marks ids t) ≡ node_count t
+many_marks ids t = as_many ids t ∙ size_is_count t
 
 -- ---- Pairs
 
@@ -190,6 +194,60 @@ module _ (tree : Tree) (ids : List (List ℕ)) (u v : ℕ) (has_u : Contains (al
       by Handover e = inr e
       by Together e = absurd (none (subst (λ (m : Meeting). Contains (meeting_pairs ids tree) (pair_of u v m)) e (is_pair lives_u lives_v (ap may_meet e))))
 
+kept_in : (p : ℕ → Bool) (xs : List ℕ) (x : ℕ) → Contains (filter p xs) x → Contains xs x
+kept_in p [] x has = has
+kept_in p (y ∷ ys) x has =
+    cond_both (p y) (y ∷ filter p ys) (filter p ys) (λ (zs : List ℕ). Contains zs x → Contains (y ∷ ys) x)
+    (λ _ has. ⊎_elim (λ same. subst (λ (z : ℕ). Contains (z ∷ ys) x) (sym same) (first_in x ys)) (λ later. later_in y x ys (kept_in p ys x later)) (cases_in y x (filter p ys) has))
+    (λ _ has. later_in y x ys (kept_in p ys x has))
+    has
+
+-- each leaf that is listed is a node of the tree
+pub listed_within : (ids : List (List ℕ)) (tree : Tree) (p : ℕ) → Contains (listed_leaves ids tree) p → p < 1 + node_count tree.term
+listed_within ids tree p has =
+    omega (arith, marked_within 1 (listed_marks ids tree.term) p (kept_in (λ uid. not (is_dead tree uid)) (all_listed ids tree) p has), many_marks ids tree.term)
+
 -- the leaves that are listed rise
 pub listed_rise : (ids : List (List ℕ)) (tree : Tree) → Rising 1 (listed_leaves ids tree)
 listed_rise ids tree = filter_rises (λ uid. not (is_dead tree uid)) 1 (all_listed ids tree) (marked_rises 1 (listed_marks ids tree.term))
+
+-- ---- The leaves of a term
+
+few_marked : (uid : ℕ) (marks : List Bool) → length (marked uid marks) ≤ length marks
+few_marked uid [] = omega arith
+few_marked uid (true ∷ marks) = omega (arith, few_marked (uid + 1) marks)
+few_marked uid (false ∷ marks) = omega (arith, few_marked (uid + 1) marks)
+
+few_kept : (p : ℕ → Bool) (xs : List ℕ) → length (filter p xs) ≤ length xs
+few_kept p [] = omega arith
+few_kept p (x ∷ xs) =
+    cond_both (p x) (x ∷ filter p xs) (filter p xs) (λ (ys : List ℕ). length ys ≤ suc (length xs))
+    (λ _. omega (arith, few_kept p xs))
+    (λ _. omega (arith, few_kept p xs))
+
+-- no more leaves are listed than there are nodes
+pub few_leaves : (ids : List (List ℕ)) (dead : List ℕ) (uid : ℕ) (t : Term) → length (living_marked dead uid (listed_marks ids t)) ≤ node_count t
+few_leaves ids dead uid t =
+    let marks : List Bool = listed_marks ids t in
+    omega (arith, few_kept (λ p. not (list_any (nat_eq p) dead)) (marked uid marks), few_marked uid marks, many_marks ids t)
+
+marked_append : (uid next : ℕ) (ms ns : List Bool) → next ≡ uid + length ms → marked uid (ms ++ ns) ≡ marked uid ms ++ marked next ns
+marked_append uid next [] ns is = ap (λ n. marked n ns) (omega (arith, is))
+marked_append uid next (true ∷ ms) ns is = ap (λ (us : List ℕ). uid ∷ us) (marked_append (uid + 1) next ms ns (omega (arith, is)))
+marked_append uid next (false ∷ ms) ns is = marked_append (uid + 1) next ms ns (omega (arith, is))
+
+-- the leaves so far and those of one child more, followed by those of the others
+pub leaves_more : (ids : List (List ℕ)) (dead before after all : List ℕ) (uid next : ℕ) (t : Term) (ts rest : List Term) → ts ≡ t ∷ rest → next ≡ uid + node_count t →
+    after ≡ before ++ living_marked dead uid (listed_marks ids t) → before ++ living_marked dead uid (flat_map (λ marks. marks) (map (listed_marks ids) ts)) ≡ all →
+    after ++ living_marked dead next (flat_map (λ marks. marks) (map (listed_marks ids) rest)) ≡ all
+leaves_more ids dead before after all uid next t ts rest here is more known =
+    let lives : ℕ → Bool = λ p. not (list_any (nat_eq p) dead) in
+    let marks : List Bool = listed_marks ids t in
+    let others : List Bool = flat_map (λ ms. ms) (map (listed_marks ids) rest) in
+    let parts : living_marked dead uid (marks ++ others) ≡ living_marked dead uid marks ++ living_marked dead next others =
+        ap (filter lives) (marked_append uid next marks others (is ∙ ap (λ n. uid + n) (sym (many_marks ids t)))) ∙ filter-append lives (marked uid marks) (marked next others) in
+    ap (λ (us : List ℕ). us ++ living_marked dead next others) more
+    ∙ append_assoc before (living_marked dead uid marks) (living_marked dead next others)
+    ∙ ap (λ (us : List ℕ). before ++ us) (sym parts)
+    ∙ ap (λ (xs : List Term). before ++ living_marked dead uid (flat_map (λ ms. ms) (map (listed_marks ids) xs))) (sym here)
+    ∙ known

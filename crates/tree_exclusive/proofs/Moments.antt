@@ -1,15 +1,12 @@
 -- Two leaves of a runner that are never held together are apart at every moment of a run.
-use Rattle.std.proofs.Common.{◌≡◌, ◌⊎◌, ⊎_elim, inl, inr, ℕ, zero, suc, ◌+◌, ◌-◌, ◌<◌, ◌≤◌, List, [], ◌∷◌, ◌++◌, map, take, length, nat_eq, cond, Bool, true, false, ◌&&◌, replicate, slice_get, Option, Some, None, Result, Ok, Err, refl, sym, ap, subst, ◌∙◌, append-nil, arith}
+use Rattle.std.proofs.Common.{◌≡◌, ⊎_elim, ℕ, zero, suc, ◌+◌, ◌-◌, ◌≤◌, List, [], ◌∷◌, ◌++◌, map, take, nat_eq, cond, Bool, true, false, ◌&&◌, replicate, slice_get, Option, Some, None, Result, Ok, Err, refl, sym, ap, subst, ◌∙◌, append-nil, arith}
 use Rattle.std.specs.List.{AllByRecursion, flat_map}
-use Rattle.std.proofs.lemmas.Bool.{cases_eq, eq-eqb, ne_eqb}
+use Rattle.std.proofs.lemmas.Bool.{cases_eq, ne_eqb}
 use Rattle.std.proofs.lemmas.List.{map-append}
-use Rattle.base_tables.specs.Sound.{RunSteady, Sound, Steady}
+use Rattle.base_tables.specs.Sound.{RunSteady, Steady}
 use Rattle.run_laws.proofs.Events.{finish_steady, later_steady, step_steady}
-use Rattle.run_laws.proofs.Induction.{every_term}
-use Rattle.run_laws.proofs.ReadNotes.{read_all, read_both}
+use Rattle.run_laws.proofs.ReadNotes.{read_all}
 use Rattle.run_laws.proofs.Runs.{InOrderFrom, opening_steady, order_after, step_last}
-use Rattle.spec_exclusive.specs.declared.meeting.Meeting.{Meeting}
-use Rattle.spec_exclusive.specs.declared.meeting.Meeting.TheVariants.{Handover, Never}
 use Rattle.spec_exclusive.specs.Meetings.{meetings}
 use Rattle.spec_run.specs.declared.block.Block.{Block}
 use Rattle.spec_run.specs.declared.block.Header.{Header}
@@ -21,10 +18,10 @@ use Rattle.spec_run.specs.declared.note.Note.{Note}
 use Rattle.spec_run.specs.declared.note.Note.TheVariants as note
 use Rattle.spec_run.specs.declared.status.Answer.{Answer}
 use Rattle.spec_run.specs.declared.status.Status.{Status}
-use Rattle.spec_run.specs.Done.{Call, Done, State, done, follow}
+use Rattle.spec_run.specs.Done.{Call, Done, State}
 use Rattle.spec_run.specs.Leaf.{fresh}
 use Rattle.spec_run.specs.Run.{RunState, Runner, Stepped, Trace, before_rest, finish, finishes, fresh_runner, opening, quench_notes, quenched_notes, releases, reset_step, root_reset, root_told, root_view, run_from, run_over, runner_at, settled, state_of, step, step_by, tell_step, tick_step, ticked, told, with_runner}
-use Rattle.spec_run.specs.Sites.{View, remembered}
+use Rattle.spec_run.specs.Sites.{View}
 use Rattle.spec_run.specs.Visit.{change, meaning}
 use Rattle.spec_serve.specs.Inputs.{runner_of}
 use Rattle.spec_serve.specs.Traces.{Noted, noted_in}
@@ -35,7 +32,7 @@ use Rattle.spec_world.specs.declared.world.What.{What}
 use Rattle.spec_world.specs.declared.world.What.TheVariants.{Tick, Halt, Change, Tell}
 use Rattle.spec_world.specs.declared.world.World.{World}
 use Rattle.tree_exclusive.specs.Runs.{AreInOrder, NamesRunner}
-use Rattle.tree_exclusive.proofs.Apart.{Apart, apart_both, change_stays, frees_apart, freeing, stays_frees}
+use Rattle.tree_exclusive.proofs.Apart.{Apart, change_stays, frees_apart, freeing}
 use Rattle.tree_exclusive.proofs.Freeing.{term_frees}
 use Rattle.tree_exclusive.proofs.Held.{held, held_among, held_by, read_leaf, read_noted}
 use Rattle.tree_exclusive.proofs.HeldEvents.{finish_tells, step_tells}

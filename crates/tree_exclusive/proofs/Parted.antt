@@ -6,7 +6,7 @@ use Rattle.run_laws.proofs.ReadNotes.{read_both}
 use Rattle.spec_run.specs.declared.fault.NodeFault.{NodeFault}
 use Rattle.spec_run.specs.declared.leaf.Instance.{Instance}
 use Rattle.spec_run.specs.declared.note.Note.{Note}
-use Rattle.spec_run.specs.Done.{Call, Done, State, carried, follow, following}
+use Rattle.spec_run.specs.Done.{Done, State, carried, follow}
 use Rattle.tree_exclusive.proofs.Apart.{Apart, Frees, Stays, after, after_note, apart_both, apart_last, frees_apart, stays_both, stays_frees}
 use Rattle.tree_exclusive.proofs.Held.{held_among}
 

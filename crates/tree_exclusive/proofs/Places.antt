@@ -1,13 +1,13 @@
 -- Which child of a node has a leaf, and how two leaves below a node may meet.
-use Rattle.std.proofs.Common.{◌≡◌, ◌⊎◌, ⊎_elim, inl, inr, ℕ, zero, suc, ◌+◌, ◌<◌, ◌≤◌, List, [], ◌∷◌, map, length, nat_lt, cond, Bool, true, false, None, refl, sym, ap, subst, ◌∙◌, arith}
-use Rattle.std.proofs.lemmas.Bool.{cases_eq, cases_lt, cond-true, cond-false, le-ltb, lt-ltb}
+use Rattle.std.proofs.Common.{◌≡◌, ◌⊎◌, ⊎_elim, inl, inr, ℕ, zero, suc, ◌+◌, ◌<◌, ◌≤◌, List, [], ◌∷◌, map, nat_lt, Bool, true, false, None, refl, ap, subst, ◌∙◌, arith}
+use Rattle.std.proofs.lemmas.Bool.{cases_lt, cond-true, cond-false, le-ltb, lt-ltb}
 use Rattle.base_tables.specs.Shapes.{is_running, status_at}
-use Rattle.base_tables.specs.Sound.{Sound, held_at, statuses}
+use Rattle.base_tables.specs.Sound.{Sound, statuses}
 use Rattle.run_laws.proofs.Children.{Family, SoundAll, size_all, size_cons, status_in}
 use Rattle.run_laws.proofs.Keeping.{family, term_keeps}
 use Rattle.run_laws.proofs.Quiet.{rests_hold_nothing}
 use Rattle.spec_exclusive.specs.declared.meeting.Meeting.{Meeting}
-use Rattle.spec_exclusive.specs.Meetings.{Meetings, meeting_at, meeting_below, meetings}
+use Rattle.spec_exclusive.specs.Meetings.{meeting_at, meeting_below, meetings}
 use Rattle.spec_run.specs.declared.memory.Memory.{Memory}
 use Rattle.spec_run.specs.Done.{State}
 use Rattle.spec_run.specs.Sites.{View, child_of, children_from, memory_at}

@@ -7,14 +7,12 @@ use Rattle.run_laws.proofs.Claims.{TermMeets}
 use Rattle.run_laws.proofs.Induction.{above, every_term, map_twice, node_means}
 use Rattle.run_laws.proofs.ReadNotes.{noted, term_reads}
 use Rattle.spec_exclusive.specs.Meetings.{Meetings, meetings, meetings_of_node}
-use Rattle.spec_run.specs.declared.memory.Memory.{Memory}
-use Rattle.spec_run.specs.Done.{State}
-use Rattle.spec_run.specs.Sites.{Meaning, View, sizes}
+use Rattle.spec_run.specs.Sites.{Meaning, sizes}
 use Rattle.spec_run.specs.Visit.{meaning}
 use Rattle.spec_tree.specs.declared.term.Term.{Term, Term-F, fold-roll-Term}
 use Rattle.spec_tree.specs.declared.term.Term.TheFolds.{map-Term}
 use Rattle.tree_exclusive.proofs.Held.{follows_leaf}
-use Rattle.tree_exclusive.proofs.Visits.{known, visit_parts}
+use Rattle.tree_exclusive.proofs.Visits.{visit_parts}
 use Rattle.tree_exclusive.proofs.Words.{PartsOf, TermParts}
 
 -- what is known of a node above its children

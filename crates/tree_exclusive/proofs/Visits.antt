@@ -1,18 +1,16 @@
 -- A visit of a node leaves the leaves apart that are never held together, where visits of its children do.
-use Rattle.std.proofs.Common.{◌≡◌, ◌⊎◌, ⊎_elim, inl, inr, ℕ, suc, ◌+◌, ◌<◌, ◌≤◌, List, [], ◌∷◌, ◌++◌, map, length, nat_eq, nat_lt, cond, slice_set, Bool, true, false, Option, Some, None, Result, Ok, Err, IfOk, refl, sym, ap, subst, ◌∙◌, arith}
-use Rattle.std.proofs.lemmas.Bool.{cases_lt, cond-false, cond-true, lt-ltb, ne_eqb, ltb-true}
-use Rattle.std.proofs.lemmas.List.Sums.{sum_by-cons}
-use Rattle.std.specs.Prelude.{sum_by}
+use Rattle.std.proofs.Common.{◌≡◌, ⊎_elim, ℕ, ◌+◌, List, [], ◌∷◌, map, length, nat_eq, nat_lt, cond, slice_set, Bool, true, false, Option, Some, None, Result, Ok, Err, IfOk, refl, sym, ap, subst, ◌∙◌, arith}
+use Rattle.std.proofs.lemmas.Bool.{cond-false, cond-true, lt-ltb, ne_eqb, ltb-true}
 use Rattle.base_tables.specs.Shapes.{is_running}
-use Rattle.base_tables.specs.Sound.{NodeRule, Within, statuses}
-use Rattle.run_laws.proofs.AfterScripts.{Still, children_still, fields_still}
+use Rattle.base_tables.specs.Sound.{statuses}
+use Rattle.run_laws.proofs.AfterScripts.{fields_still}
 use Rattle.run_laws.proofs.Beginnings.{Begins, site_here}
 use Rattle.run_laws.proofs.Children.{Family, SoundAll, status_in}
 use Rattle.run_laws.proofs.Claims.{Meets, TermMeets}
 use Rattle.run_laws.proofs.Induction.{node_means}
 use Rattle.run_laws.proofs.ReadNotes.{noted}
-use Rattle.run_laws.proofs.NodeRules.{Ready, node_rule_leaves}
-use Rattle.run_laws.proofs.Scripts.{Rests, goes_on_leaves, guards_leave, posts_leave, script_holds_leaves, script_if_there_leaves, script_run_leaves}
+use Rattle.run_laws.proofs.NodeRules.{Ready}
+use Rattle.run_laws.proofs.Scripts.{goes_on_leaves, guards_leave, posts_leave, script_holds_leaves, script_run_leaves}
 use Rattle.run_laws.proofs.Visits.{new_begins, ready_kept, ready_new, ready_running, rests_as_well, starts_with_rule}
 use Rattle.run_laws.proofs.Whole.{NodeKeeps, Own, size_here}
 use Rattle.spec_exclusive.specs.declared.meeting.Meeting.{Meeting}
@@ -37,7 +35,7 @@ use Rattle.spec_run.specs.Leaves.{called, gives, leaf_answered, leaf_call, phase
 use Rattle.spec_run.specs.NodeScripts.{goes_on, guards_answer, posts, script_holds, script_run}
 use Rattle.spec_run.specs.Ports.{new_memo, picked}
 use Rattle.spec_run.specs.Rules.Kinds.{rule}
-use Rattle.spec_run.specs.Sites.{Meaning, Site, View, children_of, remembered, sizes, view_below}
+use Rattle.spec_run.specs.Sites.{Meaning, Site, View, children_of, remembered, view_below}
 use Rattle.spec_run.specs.Steps.{Given}
 use Rattle.spec_run.specs.Visit.{begun, change, continued, ended, guarded, halt, kind_rule, meaning, node_rule, or_bad_port, remembers, reset_by, ruled, started, starts, status_of, visit_by}
 use Rattle.spec_script.specs.declared.syntax.Script.{Script}
@@ -51,7 +49,7 @@ use Rattle.tree_exclusive.proofs.Apart.{Stays, change_stays, frees_apart, other_
 use Rattle.tree_exclusive.proofs.Freeing.{Freeing, children_free, halting_freed}
 use Rattle.tree_exclusive.proofs.Held.{follows_leaf, held_among, set_held}
 use Rattle.tree_exclusive.proofs.KindRules.{rule_splits}
-use Rattle.tree_exclusive.proofs.Parted.{Beyond, Free, Pairs, Parted, Parts, after_stays, follow_each, follow_parts, freed_parted, more_parted, nothing_parted, parted_both, parted_free, silent_parted, told_parted}
+use Rattle.tree_exclusive.proofs.Parted.{Free, Pairs, Parts, after_stays, follow_each, follow_parts, freed_parted, more_parted, nothing_parted, parted_both, parted_free, silent_parted, told_parted}
 use Rattle.tree_exclusive.proofs.Places.{SameSize, kept, sizes_of}
 use Rattle.tree_exclusive.proofs.Silent.{goes_on_silent, guards_silent, holds_silent, posts_silent}
 use Rattle.tree_exclusive.proofs.Words.{NeverBelow, NeverIn, PartsOf, Room, reads_as}

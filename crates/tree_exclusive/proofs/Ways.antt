@@ -1,5 +1,5 @@
 -- The steps that lead down to a node say how it and a later one may meet.
-use Rattle.std.proofs.Common.{◌≡◌, ℕ, suc, ◌+◌, ◌<◌, ◌≤◌, List, [], ◌∷◌, ◌++◌, map, sum, nat_lt, cond, Bool, true, false, refl, sym, ap, subst, ◌∙◌, arith}
+use Rattle.std.proofs.Common.{◌≡◌, ℕ, ◌+◌, ◌<◌, List, [], ◌∷◌, map, sum, nat_lt, cond, Bool, true, false, refl, sym, ap, subst, ◌∙◌, arith}
 use Rattle.std.specs.Prelude.{sum_by}
 use Rattle.std.proofs.lemmas.Bool.{cond-false, le-ltb, ltb-false}
 use Rattle.std.proofs.lemmas.List.Sums.{sum_by-cons}
@@ -18,9 +18,9 @@ use Rattle.tree_exclusive.specs.Steps.{Rising, Ways, by_steps, steps_below, ways
 use Rattle.tree_exclusive.proofs.Terms.{meetings_of_terms}
 
 -- what is known of a term by its steps is what is known of how its leaves meet
-pub record SameAs (w : Ways) (m : Meetings) (count : ℕ) : Type 0 where
+pub record SameAs (w : Ways) (m : Meetings) (nodes : ℕ) : Type 0 where
   pub size : w.size ≡ m.size
-  pub count : w.size ≡ count
+  pub count : w.size ≡ nodes
   pub meets : (uid u v : ℕ) → u < v → by_steps (w.steps uid u) v ≡ m.meeting uid u v
 
 abbrev pub Same : Term → Type 0
@@ -52,7 +52,7 @@ module _ {X : Type 0} (term : X → Term) (each : (c : X) → Same (term c)) whe
       by_steps (steps_below kind place uid (map (λ c. ways (term c)) cs) u) v ≡ meeting_below kind place uid (map (λ c. meetings (term c)) cs) u v
   below_same kind [] place uid u v less = refl
   below_same kind (c ∷ cs) place uid u v less =
-      subst (λ (w : ℕ). by_steps (cond (nat_lt u (uid + w)) (first (uid + w)) (later (uid + w))) v ≡ goal) (sym (each c).size) (split (nat_lt u n) refl)
+      subst (λ (w : ℕ). by_steps (cond (nat_lt u (uid + w)) (first (uid + w)) (later (uid + w))) v ≡ goal) (sym (each c).size) (split (below_same kind cs (place + 1) (uid + (meetings (term c)).size) u v less) (nat_lt u n) refl)
     where
       n : ℕ
       n = uid + (meetings (term c)).size
@@ -69,14 +69,14 @@ module _ {X : Type 0} (term : X → Term) (each : (c : X) → Same (term c)) whe
       goal : Meeting
       goal = cond (nat_lt v n) ((meetings (term c)).meeting uid u v) (cond (nat_lt u n) (meeting_at kind place) rest)
 
-      split : (b : Bool) → nat_lt u n ≡ b → by_steps (cond (nat_lt u n) (first n) (later n)) v ≡ goal
-      split true e =
+      split : by_steps (later n) v ≡ rest → (b : Bool) → nat_lt u n ≡ b → by_steps (cond (nat_lt u n) (first n) (later n)) v ≡ goal
+      split after true e =
           ap (λ x. by_steps (cond x (first n) (later n)) v) e
           ∙ ap (λ m. cond (nat_lt v n) m (meeting_at kind place)) ((each c).meets uid u v less)
           ∙ ap (λ x. cond (nat_lt v n) ((meetings (term c)).meeting uid u v) (cond x (meeting_at kind place) rest)) (sym e)
-      split false e =
+      split after false e =
           ap (λ x. by_steps (cond x (first n) (later n)) v) e
-          ∙ below_same kind cs (place + 1) n u v less
+          ∙ after
           ∙ sym (cond-false (nat_lt v n) _ _ (le-ltb v n (omega (arith, less, ltb-false u n e))) ∙ ap (λ x. cond x (meeting_at kind place) rest) e)
 
   counted : (node : Term-F X) → 1 + sum_by (λ (w : Ways). w.size) (map (λ c. ways (term c)) node.children) ≡ node_count (above term node)

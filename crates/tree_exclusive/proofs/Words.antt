@@ -1,28 +1,24 @@
 -- What the words of rules do to leaves that are never both held.
-use Rattle.std.proofs.Common.{◌≡◌, ◌⊎◌, ⊎_elim, inl, inr, ℕ, ◌+◌, ◌<◌, ◌≤◌, List, [], ◌∷◌, map, length, nat_eq, cond, Bool, true, false, Option, None, refl, sym, ap, subst, ◌∙◌, arith}
+use Rattle.std.proofs.Common.{◌≡◌, ⊎_elim, inl, inr, ℕ, ◌+◌, ◌<◌, ◌≤◌, List, [], ◌∷◌, map, length, cond, Bool, true, false, None, refl, sym, ap, subst, ◌∙◌, arith}
 use Rattle.std.specs.List.{AllByRecursion}
-use Rattle.std.proofs.lemmas.Bool.{cases_eq, cases_lt, cond_both, eq-eqb}
+use Rattle.std.proofs.lemmas.Bool.{cases_lt, cond_both, eq-eqb}
 use Rattle.base_tables.specs.Shapes.{is_running, status_at}
 use Rattle.base_tables.specs.Sound.{Sound, Within, statuses}
-use Rattle.run_laws.proofs.Acts.{All, Changed, children_here, status_here, visit_at}
-use Rattle.run_laws.proofs.Children.{SoundAll, as_many}
+use Rattle.run_laws.proofs.Acts.{All, Changed, children_here, visit_at}
 use Rattle.run_laws.proofs.Claims.{ChildMeets, Meets, TermMeets, children_meet, resets_meet}
 use Rattle.run_laws.proofs.ReadNotes.{noted, term_reads}
 use Rattle.run_laws.proofs.Resting.{Rested, span_leaves}
-use Rattle.spec_exclusive.specs.declared.meeting.Meeting.{Meeting}
 use Rattle.spec_exclusive.specs.declared.meeting.Meeting.TheVariants.{Never}
 use Rattle.spec_exclusive.specs.Meetings.{Meetings, meeting_at, meetings}
 use Rattle.spec_run.specs.declared.leaf.Instance.{Instance}
 use Rattle.spec_run.specs.declared.memory.Memo.{Memo}
 use Rattle.spec_run.specs.declared.memory.Memory.{Memory}
 use Rattle.spec_run.specs.declared.moves.Span.{Span}
-use Rattle.spec_run.specs.declared.note.Note.{Note}
 use Rattle.spec_run.specs.declared.status.Answer.{Answer}
 use Rattle.spec_run.specs.declared.status.Status.{Status}
-use Rattle.spec_run.specs.Done.{Done, State, done, follow}
+use Rattle.spec_run.specs.Done.{Done, State}
 use Rattle.spec_run.specs.Sites.{Meaning, View, memory_at}
-use Rattle.spec_run.specs.Steps.{Child, Given, Rule, child_at, is_completed, keep, nobody, over, reset, resets, visit, visit_or_pass}
-use Rattle.spec_run.specs.Rules.Answers.{pass_on}
+use Rattle.spec_run.specs.Steps.{Child, Given, Rule, child_at, is_completed, keep, reset, resets, visit, visit_or_pass}
 use Rattle.spec_run.specs.Visit.{meaning, status_of}
 use Rattle.spec_tree.specs.declared.term.Kind.{Kind}
 use Rattle.spec_tree.specs.declared.term.Term.{Term}

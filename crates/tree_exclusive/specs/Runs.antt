@@ -1,16 +1,24 @@
 -- What a run tells of two leaves: whether they are held together, between any two calls of drivers, and after an event.
-use Rattle.std.specs.Prelude.{ℕ, ◌≡◌, ◌≤◌, List, [], ◌∷◌, Bool, true, false, ◌&&◌, if◌then◌else◌, take}
-use Rattle.std.specs.List.{AllByRecursion, flat_map}
+use Rattle.std.specs.Prelude.{ℕ, ◌≡◌, ◌<◌, ◌≤◌, List, [], ◌∷◌, Bool, true, false, ◌&&◌, if◌then◌else◌, take}
+use Rattle.std.specs.List.{AllByRecursion, Contains, flat_map}
 use Rattle.std.specs.List.Sorted.{IsNonDecreasingBy}
+use Rattle.spec_exclusive.specs.declared.meeting.Meeting.{Meeting}
+use Rattle.spec_exclusive.specs.declared.meeting.Meeting.TheVariants.{Together}
+use Rattle.spec_exclusive.specs.declared.pair.Pair.{Pair}
+use Rattle.spec_exclusive.specs.Pairs.{all_listed, pair_of}
 use Rattle.spec_run.specs.declared.block.Block.{Block}
 use Rattle.spec_run.specs.declared.note.Note.{Note}
 use Rattle.spec_run.specs.declared.note.Note.TheVariants as note
 use Rattle.spec_run.specs.declared.status.Answer.{Answer}
 use Rattle.spec_run.specs.declared.status.Answer.TheVariants as answer
+use Rattle.spec_run.specs.Run.{run_over}
 use Rattle.spec_serve.specs.Traces.{Noted, is_call, noted_in}
+use Rattle.spec_tree.specs.declared.term.Tree.{Tree}
 use Rattle.spec_world.specs.declared.world.Event.{Event}
 use Rattle.spec_world.specs.declared.world.What.{What}
 use Rattle.spec_world.specs.declared.world.What.TheVariants.{Tick, Halt, Change, Tell}
+use Rattle.spec_world.specs.declared.world.World.{World}
+use Rattle.tree_dead.specs.Runs.{LeavesHaveRows}
 
 -- ---- A leaf that is held
 
@@ -65,3 +73,19 @@ NamesRunner (Tell runner uid telling) = 1 ≤ runner
 pub record AreInOrder (events : List Event) : Type 0 where
   pub moments : IsNonDecreasingBy (λ (e : Event). e.at) events
   pub runners : AllByRecursion (λ (e : Event). NamesRunner e.what) events
+
+-- ---- All runs of a tree
+
+-- two leaves of a tree with listed IDs
+pub record AreListed (ids : List (List ℕ)) (tree : Tree) (earlier later : ℕ) : Type 0 where
+  pub first : Contains (all_listed ids tree) earlier
+  pub second : Contains (all_listed ids tree) later
+  pub order : earlier < later
+
+-- in every world with a row for each leaf, and over every list of events in their order: two leaves of one runner with listed
+-- IDs that are none of these pairs are held together at no moment, and those that are none of these of `Together` after no event
+pub record AreApart (ids : List (List ℕ)) (tree : Tree) (pairs : List Pair) : Type 0 where
+  pub moments : (world : World) → LeavesHaveRows tree world → (events : List Event) → AreInOrder events → (runner earlier later : ℕ) → AreListed ids tree earlier later →
+      ((meeting : Meeting) → Contains pairs (pair_of earlier later meeting) → ⊥) → NeverTogether runner earlier later (run_over tree world events).blocks
+  pub between : (world : World) → LeavesHaveRows tree world → (events : List Event) → AreInOrder events → (runner earlier later : ℕ) → AreListed ids tree earlier later →
+      (Contains pairs (pair_of earlier later Together) → ⊥) → NotTogetherAfterEvents runner earlier later (run_over tree world events).blocks

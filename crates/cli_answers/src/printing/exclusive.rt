@@ -1,4 +1,4 @@
-ghost use Rattle.std.specs.Prelude.{◌≡◌, ◌≤◌, ◌++◌, IfOk, List, OnOk, IsErrOf, Ok, codes, map};
+ghost use Rattle.std.specs.Prelude.{◌≡◌, ◌≤◌, ◌++◌, [], IfOk, List, OnOk, IsErrOf, Ok, codes, map};
 ghost use Rattle.std.specs.List.{concat};
 ghost use Rattle.cli_refusals.specs.Printing.{Printed};
 ghost use Rattle.spec_exclusive.specs.declared.pair.Pair.{Pair as FoundPair};
@@ -8,6 +8,7 @@ ghost use Rattle.spec_program.specs.Exclusives.{exclusive_output, meeting_word, 
 ghost use Rattle.spec_program.specs.Refusals.{no_leaf_words};
 ghost use Rattle.spec_program.specs.Refused.{no_leaf};
 ghost use Rattle.spec_tree.specs.Trees.{IsValid};
+ghost use Rattle.tree_exclusive.specs.Runs.{AreApart};
 ghost use Rattle.tree_exclusive.specs.Steps.{IsFound};
 
 use base_outside::Sink;
@@ -17,6 +18,7 @@ use spec_program::Exit;
 use spec_tree::Tree;
 use std::alloc::Global;
 use text_lines::{TextStop, put_bytes, put_number, put_quoted, write_line};
+use tree_exclusive::laws::no_run_holds_exclusive_leaves_together;
 use tree_exclusive::{Found, find_pairs, missing_leaf};
 
 /// How two leaves may meet, in a word.
@@ -164,7 +166,8 @@ fn write_exclusive<K: Sink>(
     ended
 }
 
-/// Prints which leaves with these IDs may be held together, or that no leaf has one of them.
+/// Prints which leaves with these IDs may be held together, or that no leaf has one of them. Where the exit
+/// is that of a whole answer, no run holds two of them together.
 pub fn print_exclusive<K: Sink>(
     alloc: Global,
     tree: &Tree,
@@ -175,7 +178,9 @@ pub fn print_exclusive<K: Sink>(
     ensures printed { Printed (exclusive_output ids.now (Ok tree.now)) result
         (K.written out.old) (K.faults out.old) (K.written out.new) (K.faults out.new) }
     ensures count { K.faults out.old ≤ K.faults out.new }
+    ensures apart { result ≡ Exit.Done → AreApart ids.now tree.now [] }
 {
+    no_run_holds_exclusive_leaves_together();
     match write_exclusive(alloc, tree, ids, out) {
         Ok(exit) => exit,
         Err(TextStop::WriteFault) => Exit::Write,

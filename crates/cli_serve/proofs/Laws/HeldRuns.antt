@@ -21,9 +21,10 @@ use Rattle.spec_serve.specs.Traces.{Noted, all_ended, goes_on, has_later, is_cal
 use Rattle.spec_tree.specs.declared.term.Tree.{Tree}
 use Rattle.spec_world.specs.declared.world.Event.{Event}
 use Rattle.spec_world.specs.declared.world.World.{World}
-use Rattle.cli_serve.proofs.Laws.Held.{held, held_among, held_by, read_leaf, read_noted}
-use Rattle.cli_serve.proofs.Laws.HeldEvents.{AreTaken, FreeBelow, finish_frees, finish_tells, step_tells}
-use Rattle.cli_serve.proofs.Laws.HeldSteps.{Free, HoldsInside, Tells}
+use Rattle.tree_exclusive.proofs.Held.{held, held_among, held_by, read_leaf, read_noted}
+use Rattle.tree_exclusive.proofs.HeldEvents.{finish_tells, step_tells}
+use Rattle.tree_exclusive.proofs.HeldSteps.{Free, HoldsInside, Tells}
+use Rattle.cli_serve.proofs.Laws.HeldEvents.{AreTaken, FreeBelow, finish_frees}
 
 -- ---- Runs
 

@@ -35,7 +35,8 @@ use Rattle.spec_world.specs.declared.world.World.{World}
 use Rattle.spec_world.specs.Worlds.{IsValidEvent, IsValidWhat}
 use Rattle.spec_world_file.specs.declared.world_fault.WorldKind.{WorldKind}
 use Rattle.spec_world_file.specs.WorldFile.{Reading}
-use Rattle.cli_serve.proofs.Laws.HeldEvents.{AreTaken, NamesRunner}
+use Rattle.tree_exclusive.specs.Runs.{NamesRunner}
+use Rattle.cli_serve.proofs.Laws.HeldEvents.{AreTaken}
 use Rattle.cli_serve.proofs.Laws.HeldRuns.{run_leaves_none}
 use Rattle.cli_serve.proofs.Laws.TraceRuns.{finishes_events}
 
