@@ -54,11 +54,12 @@ one_after s n (text ∷ texts) before a b h k =
     by rest (Ok left) x y = rest left a b x y
     by rest (Err kind) x y = x ∙ sym y
 
+abbrev none : Result (List Expected) ExpectFault
+none = Err (record { line = 1; kind = Header })
+
 one_file : (s : Subject) (texts : List (List ℕ)) (a b : Result (List Expected) ExpectFault) → LinesRead s texts a → LinesRead s texts b → a ≡ b
 one_file s [] a b h k = h ∙ sym k
 one_file s (first ∷ rest) a b h k = by (bytes_eq (without_return first) (codes "bt-expect 1")) h k where
-  abbrev none : Result (List Expected) ExpectFault
-  none = Err (record { line = 1; kind = Header })
   by : (t : Bool) → MatchBool t (AfterLines s 2 rest [] a) (a ≡ none) → MatchBool t (AfterLines s 2 rest [] b) (b ≡ none) → a ≡ b
   by true h k = one_after s 2 rest [] a b h k
   by false h k = h ∙ sym k

@@ -26,7 +26,7 @@ use Rattle.expect_watch.specs.Memos.{after_event, after_note, is_lost_after, is_
 use Rattle.expect_watch.specs.States.{event_ended, left_with, noted}
 use Rattle.expect_watch.specs.Tests.{is_ready_so}
 use Rattle.expect_watch.proofs.Follows.{FollowsBy, Steps, held_at, next_of, so_far}
-use Rattle.expect_watch.proofs.Until.{are_until_both, happenings_both, happenings_more, le_not_lt, until_all, until_early, until_late, until_more, until_over}
+use Rattle.expect_watch.proofs.Until.{are_until_both, count_cons, happenings_both, happenings_more, le_not_lt, until_all, until_early, until_late, until_more, until_over}
 use Rattle.expect_watch.proofs.Watches.{ended_kept, noted_kept, notes_watched, sight_watched}
 
 -- ---- Notes alone lose nothing
@@ -87,18 +87,23 @@ pub record LastsBy (names : List Fact) (facts : List ℤ) (e : Expectation) (Kee
       is_lost names e (so_far facts (past ++ s ∷ [])) ≡ false → Keeps (past ++ s ∷ []) (after_event s.at s.facts (notes_memo s.at s.happenings memo))
 
 module _ (names : List Fact) (facts : List ℤ) (e : Expectation) (Keeps : List Sight → Memo → Type 0) (by : LastsBy names facts e Keeps) where
+  abbrev after_sight : Sight → Memo → Memo
+  after_sight s memo = notes_memo s.at s.happenings memo
+
+  whole : (past : List Sight) (s : Sight) (w : Watched) → w.lost ≡ None → Keeps past w.memo →
+      next_of past s w ≡ left_with w s.at (is_lost_after s.at s.facts (after_sight s w.memo)) (after_event s.at s.facts (after_sight s w.memo))
+  whole past s w none keeps = sight_lasts s (held_at past) w none (by.lasting past w.memo keeps)
+
   pub steps_last : (past : List Sight) (s : Sight) (w : Watched) → w.lost ≡ None → Keeps past w.memo → is_lost names e (so_far facts past) ≡ false → Steps names facts e Keeps past s (next_of past s w)
   steps_last past s w none keeps kept = by_loss (is_lost names e (so_far facts (past ++ s ∷ []))) refl where
-    abbrev memo : Memo
-    memo = notes_memo s.at s.happenings w.memo
-    whole : next_of past s w ≡ left_with w s.at (is_lost_after s.at s.facts memo) (after_event s.at s.facts memo)
-    whole = sight_lasts s (held_at past) w none (by.lasting past w.memo keeps)
+    lost_is : (b : Bool) → is_lost names e (so_far facts (past ++ s ∷ [])) ≡ b → (next_of past s w).lost ≡ cond b (Some s.at) None
+    lost_is b is = ap (λ (x : Watched). x.lost) (whole past s w none keeps) ∙ ap (λ (x : Bool). cond x (Some s.at) None) (sym (by.lost past s w.memo keeps kept) ∙ is)
     by_loss : (b : Bool) → is_lost names e (so_far facts (past ++ s ∷ [])) ≡ b → Steps names facts e Keeps past s (next_of past s w)
-    by_loss true is = inl (ap (λ (x : Watched). x.lost) whole ∙ ap (λ (b : Bool). cond b (Some s.at) None) (sym (by.lost past s w.memo keeps kept) ∙ is), is)
+    by_loss true is = inl (lost_is true is, is)
     by_loss false is = inr (
-      ap (λ (x : Watched). x.lost) whole ∙ ap (λ (b : Bool). cond b (Some s.at) None) (sym (by.lost past s w.memo keeps kept) ∙ is),
+      lost_is false is,
       is,
-      subst (Keeps (past ++ s ∷ [])) (sym (ap (λ (x : Watched). x.memo) whole)) (by.goes past s w.memo keeps kept is),
+      subst (Keeps (past ++ s ∷ [])) (sym (ap (λ (x : Watched). x.memo) (whole past s w none keeps))) (by.goes past s w.memo keeps kept is),
     )
 
 -- ---- Tests
@@ -280,8 +285,6 @@ module _ (ms : ℕ) (told : Note → Bool) where
   pub told_next : (past : List Sight) (s : Sight) → (not (told_until past) && not (are_until ms past)) ≡ false →
       told_until (past ++ s ∷ []) ≡ (told_until past || (nat_le s.at ms && told_in s.happenings))
   told_next past s kept = ap (λ (xs : List Sight). told_in (happenings_in xs)) (until_next ms past s) ∙ by_past (are_until ms past) (nat_lt ms s.at) refl refl where
-    abbrev Is : Type 0
-    Is = told_in (happenings_in (cond (not (are_until ms past) || nat_lt ms s.at) (until ms past) (past ++ s ∷ []))) ≡ (told_until past || (nat_le s.at ms && told_in s.happenings))
     choice : (a b : Bool) → are_until ms past ≡ a → nat_lt ms s.at ≡ b →
         told_in (happenings_in (cond (not (are_until ms past) || nat_lt ms s.at) (until ms past) (past ++ s ∷ []))) ≡ told_in (happenings_in (cond (not a || b) (until ms past) (past ++ s ∷ [])))
     choice a b e f =
@@ -295,7 +298,8 @@ module _ (ms : ℕ) (told : Note → Bool) where
     or_none : (a : Bool) → a ≡ (a || false)
     or_none true = refl
     or_none false = refl
-    by_past : (a b : Bool) → are_until ms past ≡ a → nat_lt ms s.at ≡ b → Is
+    by_past : (a b : Bool) → are_until ms past ≡ a → nat_lt ms s.at ≡ b →
+        told_in (happenings_in (cond (not (are_until ms past) || nat_lt ms s.at) (until ms past) (past ++ s ∷ []))) ≡ (told_until past || (nat_le s.at ms && told_in s.happenings))
     by_past false b e f = choice false b e f ∙ met_before (told_until past) (nat_le s.at ms && told_in s.happenings) (ap (λ (x : Bool). not (told_until past) && not x) (sym e) ∙ kept)
     by_past true true e f = choice true true e f ∙ or_none (told_until past) ∙ in_time true f
     by_past true false e f =
@@ -453,12 +457,12 @@ may_loss op c n = by_may (may_compare op c n) refl where
       let unmet : compares op (nat_cmp c n) ≡ false = ap (λ (k : ℕ). compares op (nat_cmp k n)) (sym same) ∙ may_off op c 0 n off in
       ap (λ (b : Bool). not b && not (may_compare op c n)) unmet
 
+abbrev pub StartsKept : List Bool → Cmp → ℕ → List Sight → Memo → Type 0
+StartsKept leaves op n past memo = memo ≡ Starts leaves op n (min (starts_in leaves past) most)
+
 module _ (names : List Fact) (facts : List ℤ) (leaves : List Bool) (op : Cmp) (n : ℕ) (low : n ≤ last_moment) where
   abbrev begun : Happening → Bool
   begun h = is_start leaves h.note
-
-  abbrev pub StartsKept : List Sight → Memo → Type 0
-  StartsKept past memo = memo ≡ Starts leaves op n (min (starts_in leaves past) most)
 
   under : n < most
   under = omega (arith, low)
@@ -467,21 +471,23 @@ module _ (names : List Fact) (facts : List ℤ) (leaves : List Bool) (op : Cmp) 
   notes_starts at [] c =
       let same : c ≡ c + 0 = omega arith in
       ap (λ (k : ℕ). Starts leaves op n (min k most)) same
-  notes_starts at (h ∷ hs) c = by_start (begun h) refl where
-    by_start : (b : Bool) → begun h ≡ b → notes_memo at (h ∷ hs) (Starts leaves op n (min c most)) ≡ Starts leaves op n (min (c + count_by begun (h ∷ hs)) most)
-    by_start true e =
+  notes_starts at (h ∷ hs) c = by_start (λ k. notes_starts at hs k) (begun h) refl where
+    by_start : ((k : ℕ) → notes_memo at hs (Starts leaves op n (min k most)) ≡ Starts leaves op n (min (k + count_by begun hs) most)) → (b : Bool) → begun h ≡ b → notes_memo at (h ∷ hs) (Starts leaves op n (min c most)) ≡ Starts leaves op n (min (c + count_by begun (h ∷ hs)) most)
+    by_start again true e =
         let sum : c + 1 + count_by begun hs ≡ c + (1 + count_by begun hs) = omega arith in
         ap (λ (b : Bool). notes_memo at hs (Starts leaves op n (cond b (one_more (min c most)) (min c most)))) e
         ∙ ap (λ (k : ℕ). notes_memo at hs (Starts leaves op n k)) (capped_more c)
-        ∙ notes_starts at hs (c + 1)
+        ∙ again (c + 1)
         ∙ ap (λ (k : ℕ). Starts leaves op n (min k most)) sum
         ∙ ap (λ (b : Bool). Starts leaves op n (min (c + (cond b 1 0 + count_by begun hs)) most)) (sym e)
-    by_start false e =
+        ∙ ap (λ (k : ℕ). Starts leaves op n (min (c + k) most)) (sym (count_cons begun h hs))
+    by_start again false e =
         let sum : c + count_by begun hs ≡ c + (0 + count_by begun hs) = omega arith in
         ap (λ (b : Bool). notes_memo at hs (Starts leaves op n (cond b (one_more (min c most)) (min c most)))) e
-        ∙ notes_starts at hs c
+        ∙ again c
         ∙ ap (λ (k : ℕ). Starts leaves op n (min k most)) sum
         ∙ ap (λ (b : Bool). Starts leaves op n (min (c + (cond b 1 0 + count_by begun hs)) most)) (sym e)
+        ∙ ap (λ (k : ℕ). Starts leaves op n (min (c + k) most)) (sym (count_cons begun h hs))
 
   starts_more : (past more : List Sight) → starts_in leaves (past ++ more) ≡ starts_in leaves past + count_by begun (happenings_in more)
   starts_more past more = ap (count_by begun) (happenings_both past more) ∙ sum_by-append (λ (h : Happening). cond (begun h) 1 0) (happenings_in past) (happenings_in more)
@@ -489,12 +495,12 @@ module _ (names : List Fact) (facts : List ℤ) (leaves : List Bool) (op : Cmp) 
   starts_next : (past : List Sight) (s : Sight) → starts_in leaves (past ++ s ∷ []) ≡ starts_in leaves past + count_by begun s.happenings
   starts_next past s = ap (count_by begun) (happenings_more past s) ∙ sum_by-append (λ (h : Happening). cond (begun h) 1 0) (happenings_in past) s.happenings
 
-  memo_is : (past : List Sight) (s : Sight) (memo : Memo) → StartsKept past memo → notes_memo s.at s.happenings memo ≡ Starts leaves op n (min (starts_in leaves (past ++ s ∷ [])) most)
+  memo_is : (past : List Sight) (s : Sight) (memo : Memo) → StartsKept leaves op n past memo → notes_memo s.at s.happenings memo ≡ Starts leaves op n (min (starts_in leaves (past ++ s ∷ [])) most)
   memo_is past s memo is =
       ap (notes_memo s.at s.happenings) is ∙ notes_starts s.at s.happenings (starts_in leaves past)
       ∙ ap (λ (k : ℕ). Starts leaves op n (min k most)) (sym (starts_next past s))
 
-  starts_lasts : LastsBy names facts (expected.Starts leaves op n) StartsKept
+  starts_lasts : LastsBy names facts (expected.Starts leaves op n) (StartsKept leaves op n)
   starts_lasts = record {
     lasting = λ past memo is. subst IsLasting (sym is) tt;
     lost = λ past s memo is kept.
@@ -504,12 +510,12 @@ module _ (names : List Fact) (facts : List ℤ) (leaves : List Bool) (op : Cmp) 
     goes = λ past s memo is kept still. ap (after_event s.at s.facts) (memo_is past s memo is);
   }
 
-  pub follows_starts : FollowsBy names facts (expected.Starts leaves op n) StartsKept
+  pub follows_starts : FollowsBy names facts (expected.Starts leaves op n) (StartsKept leaves op n)
   follows_starts = record {
     ends = λ past memo is kept. ap (compares op) (sym (capped_is (starts_in leaves past) n under)) ∙ sym (ap is_met is);
     stays = λ past more gone.
         ap (λ (k : ℕ). compares op (nat_cmp k n)) (starts_more past more)
         ∙ may_off op (starts_in leaves past) (count_by begun (happenings_in more)) n
         (past_off (compares op (nat_cmp (starts_in leaves past) n)) (may_compare op (starts_in leaves past) n) gone);
-    steps = steps_last names facts (expected.Starts leaves op n) StartsKept starts_lasts;
+    steps = steps_last names facts (expected.Starts leaves op n) (StartsKept leaves op n) starts_lasts;
   }

@@ -30,14 +30,14 @@ Test = List Happening → Happening → Bool
 
 pub each_both : (ok : Test) (past xs ys : List Happening) → each_after ok past (xs ++ ys) ≡ (each_after ok past xs && each_after ok (past ++ xs) ys)
 each_both ok past [] ys = ap (λ (p : List Happening). each_after ok p ys) (sym (append-nil past))
-each_both ok past (x ∷ xs) ys = by_first (ok past x) refl where
-  by_first : (b : Bool) → ok past x ≡ b → each_after ok past (x ∷ xs ++ ys) ≡ (each_after ok past (x ∷ xs) && each_after ok (past ++ x ∷ xs) ys)
-  by_first true e =
+each_both ok past (x ∷ xs) ys = by_first (each_both ok (past ++ x ∷ []) xs ys) (ok past x) refl where
+  by_first : each_after ok (past ++ x ∷ []) (xs ++ ys) ≡ (each_after ok (past ++ x ∷ []) xs && each_after ok ((past ++ x ∷ []) ++ xs) ys) → (b : Bool) → ok past x ≡ b → each_after ok past (x ∷ xs ++ ys) ≡ (each_after ok past (x ∷ xs) && each_after ok (past ++ x ∷ xs) ys)
+  by_first rest true e =
       ap (λ (b : Bool). b && each_after ok (past ++ x ∷ []) (xs ++ ys)) e
-      ∙ each_both ok (past ++ x ∷ []) xs ys
+      ∙ rest
       ∙ ap (λ (p : List Happening). each_after ok (past ++ x ∷ []) xs && each_after ok p ys) (append_assoc past (x ∷ []) xs)
       ∙ ap (λ (b : Bool). (b && each_after ok (past ++ x ∷ []) xs) && each_after ok (past ++ x ∷ xs) ys) (sym e)
-  by_first false e =
+  by_first rest false e =
       ap (λ (b : Bool). b && each_after ok (past ++ x ∷ []) (xs ++ ys)) e
       ∙ ap (λ (b : Bool). (b && each_after ok (past ++ x ∷ []) xs) && each_after ok (past ++ x ∷ xs) ys) (sym e)
 
@@ -69,31 +69,38 @@ module _ (ok : Test) (Keeps : List Happening → Memo → Type 0) (by : TestsBy 
     subst (λ (xs : List Happening). Keeps xs w.memo) (append_assoc past (h ∷ []) hs) kept.2,
   )
 
+  -- the leaves that are held after a happening, and what is kept then where it was not lost before
+  abbrev held_by : List Happening → Happening → List Held
+  held_by past h = held_after h.runner h.note (held_from [] past)
+
+  abbrev kept_by : ℕ → List Happening → Happening → Watched → Watched
+  kept_by at past h w = left_with w at (is_lost_by h.note h.facts (held_by past h) w.memo) (after_note at h.note w.memo)
+
+  held_is : (past : List Happening) (h : Happening) → held_by past h ≡ held_from [] (past ++ h ∷ [])
+  held_is past h = sym (held_both [] past (h ∷ []))
+
+  loss_is : (past : List Happening) (h : Happening) (memo : Memo) → Keeps past memo → is_lost_by h.note h.facts (held_by past h) memo ≡ not (ok past h)
+  loss_is past h memo keeps = ap (λ (x : List Held). is_lost_by h.note h.facts x memo) (held_is past h) ∙ by.tells past h memo keeps
+
+  -- what comes after a happening that passes
+  abbrev Again : ℕ → List Happening → List Happening → Type 0
+  Again at past hs = (w : Watched) → w.lost ≡ None → Keeps past w.memo → After at past hs (notes_watched at hs (held_from [] past) w)
+
   notes_go : (hs past : List Happening) (at : ℕ) (w : Watched) → w.lost ≡ None → Keeps past w.memo → After at past hs (notes_watched at hs (held_from [] past) w)
   notes_go [] past at w none keeps = inr (none, refl, subst (λ (xs : List Happening). Keeps xs w.memo) (sym (append-nil past)) keeps)
-  notes_go (h ∷ hs) past at w none keeps = subst (After at past (h ∷ hs)) (sym whole) (by_test (ok past h) refl) where
-    abbrev held : List Held
-    held = held_after h.runner h.note (held_from [] past)
-    abbrev lost_so : Bool
-    lost_so = is_lost_by h.note h.facts held w.memo
-    abbrev next : Watched
-    next = left_with w at lost_so (after_note at h.note w.memo)
-    held_is : held ≡ held_from [] (past ++ h ∷ [])
-    held_is = sym (held_both [] past (h ∷ []))
-    lost_is : lost_so ≡ not (ok past h)
-    lost_is = ap (λ (x : List Held). is_lost_by h.note h.facts x w.memo) held_is ∙ by.tells past h w.memo keeps
-    whole : notes_watched at (h ∷ hs) (held_from [] past) w ≡ notes_watched at hs held next
-    whole = ap (notes_watched at hs held) (noted_kept at h held w none)
-    by_test : (b : Bool) → ok past h ≡ b → After at past (h ∷ hs) (notes_watched at hs held next)
-    by_test true passes =
-        let kept : next.lost ≡ None = ap (λ (b : Bool). cond b (Some at) None) (lost_is ∙ ap not passes) in
-        let rest : After at (past ++ h ∷ []) hs (notes_watched at hs held next) =
-            subst (λ (x : List Held). After at (past ++ h ∷ []) hs (notes_watched at hs x next)) (sym held_is)
-            (notes_go hs (past ++ h ∷ []) at next kept (by.notes past h at w.memo keeps)) in
-        after_passed at past hs h (notes_watched at hs held next) passes rest
-    by_test false fails =
-        let lost : next.lost ≡ Some at = ap (λ (b : Bool). cond b (Some at) None) (lost_is ∙ ap not fails) in
-        let is : notes_watched at hs held next ≡ next = notes_lost at at hs held next lost in
+  notes_go (h ∷ hs) past at w none keeps =
+      subst (After at past (h ∷ hs)) (sym (ap (notes_watched at hs (held_by past h)) (noted_kept at h (held_by past h) w none)))
+      (by_test (λ w2 none2 keeps2. notes_go hs (past ++ h ∷ []) at w2 none2 keeps2) (ok past h) refl) where
+    by_test : Again at (past ++ h ∷ []) hs → (b : Bool) → ok past h ≡ b → After at past (h ∷ hs) (notes_watched at hs (held_by past h) (kept_by at past h w))
+    by_test again true passes =
+        let kept : (kept_by at past h w).lost ≡ None = ap (λ (b : Bool). cond b (Some at) None) (loss_is past h w.memo keeps ∙ ap not passes) in
+        let rest : After at (past ++ h ∷ []) hs (notes_watched at hs (held_by past h) (kept_by at past h w)) =
+            subst (λ (x : List Held). After at (past ++ h ∷ []) hs (notes_watched at hs x (kept_by at past h w))) (sym (held_is past h))
+            (again (kept_by at past h w) kept (by.notes past h at w.memo keeps)) in
+        after_passed at past hs h (notes_watched at hs (held_by past h) (kept_by at past h w)) passes rest
+    by_test again false fails =
+        let lost : (kept_by at past h w).lost ≡ Some at = ap (λ (b : Bool). cond b (Some at) None) (loss_is past h w.memo keeps ∙ ap not fails) in
+        let is : notes_watched at hs (held_by past h) (kept_by at past h w) ≡ kept_by at past h w = notes_lost at at hs (held_by past h) (kept_by at past h w) lost in
         inl (ap (λ (x : Watched). x.lost) is ∙ lost, ap (λ (b : Bool). b && each_after ok (past ++ h ∷ []) hs) fails)
 
   -- .. after an event

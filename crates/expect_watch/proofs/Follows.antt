@@ -90,10 +90,10 @@ module _ (names : List Fact) (facts : List ℤ) (e : Expectation) (Keeps : List 
 
   pub follows : (sights past : List Sight) (at : ℕ) (w : Watched) → w.lost ≡ None → Keeps past w.memo → Lost past false → Tells sights past at w
   follows [] past at w none keeps is = ends_kept past at w none keeps is
-  follows (s ∷ sights) past at w none keeps is = by_step (by.steps past s w none keeps is) where
-    by_step : Steps names facts e Keeps past s (next_of past s w) → Tells (s ∷ sights) past at w
-    by_step (inl lost) =
+  follows (s ∷ sights) past at w none keeps is = by_step (λ w2 none2 keeps2 is2. follows sights (past ++ s ∷ []) s.at w2 none2 keeps2 is2) (by.steps past s w none keeps is) where
+    by_step : ((w2 : Watched) → w2.lost ≡ None → Keeps (past ++ s ∷ []) w2.memo → Lost (past ++ s ∷ []) false → Tells sights (past ++ s ∷ []) s.at w2) → Steps names facts e Keeps past s (next_of past s w) → Tells (s ∷ sights) past at w
+    by_step again (inl lost) =
         follows_lost (past ++ s ∷ []) sights (held_from (held_at past) s.happenings) s.at (next_of past s w) lost.0 lost.1 ∙ verdict_next past s sights at is
-    by_step (inr kept) =
+    by_step again (inr kept) =
         ap (λ (h : List Held). verdict_of (sights_watched sights h (next_of past s w)) (last_of s.at sights)) (held_next past s)
-        ∙ follows sights (past ++ s ∷ []) s.at (next_of past s w) kept.0 kept.2 kept.1 ∙ verdict_next past s sights at is
+        ∙ again (next_of past s w) kept.0 kept.2 kept.1 ∙ verdict_next past s sights at is

@@ -2,6 +2,7 @@
 use Rattle.std.proofs.Common.{◌≡◌, ℕ, ℤ, ◌+◌, List, [], ◌∷◌, ◌++◌, map, length, Bool, true, false, not, cond, Option, Some, None, refl, sym, ap, subst, ◌∙◌, arith}
 use Rattle.std.specs.List.{All, count_by, flat_map}
 use Rattle.std.proofs.lemmas.List.{length-map}
+use Rattle.std.proofs.lemmas.List.Elements.{All-head, All-tail}
 use Rattle.std.proofs.lemmas.List.Folds.{flat_map-map}
 use Rattle.spec_run.specs.declared.block.Block.{Block}
 use Rattle.spec_run.specs.Served.{Setup}
@@ -16,9 +17,10 @@ use Rattle.spec_expect.specs.Verdicts as told
 use Rattle.expect_watch.specs.declared.watching.Watched.{Watched}
 use Rattle.expect_watch.specs.Begun.{AreBegun, BegunOn}
 use Rattle.expect_watch.specs.Memos.{after_event, after_note, is_lost_after, is_lost_by}
-use Rattle.expect_watch.specs.Over.{AreOver}
+use Rattle.expect_watch.specs.Over.{AreOver, IsOver}
 use Rattle.expect_watch.specs.States.{State, all_taken, event_ended, is_failed, noted, unless_lost, verdict_of}
 use Rattle.expect_watch.proofs.Sights.{blocks_last, blocks_watched}
+use Rattle.expect_watch.proofs.Until.{count_cons}
 use Rattle.expect_watch.proofs.Verdicts.{begun_tells}
 use Rattle.expect_watch.proofs.Watches.{last_of, notes_watched, sight_watched, sights_watched}
 
@@ -43,11 +45,11 @@ sights_line (s ∷ sights) held w =
 
 count_map : {X Y : Type 0} (p : Y → Bool) (f : X → Y) (xs : List X) → count_by p (map f xs) ≡ count_by (λ x. p (f x)) xs
 count_map p f [] = refl
-count_map p f (x ∷ xs) = ap (λ (n : ℕ). cond (p (f x)) 1 0 + n) (count_map p f xs)
+count_map p f (x ∷ xs) = count_cons p (f x) (map f xs) ∙ ap (λ (n : ℕ). cond (p (f x)) 1 0 + n) (count_map p f xs) ∙ sym (count_cons (λ y. p (f y)) x xs)
 
 count_same : {X : Type 0} (p q : X → Bool) → ((x : X) → p x ≡ q x) → (xs : List X) → count_by p xs ≡ count_by q xs
 count_same p q same [] = refl
-count_same p q same (x ∷ xs) = (λ i. cond (same x i) 1 0 + count_same p q same xs i)
+count_same p q same (x ∷ xs) = count_cons p x xs ∙ (λ i. cond (same x i) 1 0 + count_same p q same xs i) ∙ sym (count_cons q x xs)
 
 unmet : (b : Bool) (at : ℕ) → is_failed (cond b Pass (Fail at)) ≡ not b
 unmet true at = refl
@@ -56,10 +58,10 @@ unmet false at = refl
 -- those that pass and those that do not are all
 count_all : {X : Type 0} (p : X → Bool) (xs : List X) → count_by p xs + count_by (λ x. not (p x)) xs ≡ length xs
 count_all p [] = refl
-count_all p (x ∷ xs) = by_test (p x) where
-  by_test : (b : Bool) → (cond b 1 0 + count_by p xs) + (cond (not b) 1 0 + count_by (λ y. not (p y)) xs) ≡ length (x ∷ xs)
-  by_test true = omega (arith, count_all p xs)
-  by_test false = omega (arith, count_all p xs)
+count_all p (x ∷ xs) = (λ i. count_cons p x xs i + count_cons (λ y. not (p y)) x xs i) ∙ by_test (count_all p xs) (p x) where
+  by_test : count_by p xs + count_by (λ y. not (p y)) xs ≡ length xs → (b : Bool) → (cond b 1 0 + count_by p xs) + (cond (not b) 1 0 + count_by (λ y. not (p y)) xs) ≡ length (x ∷ xs)
+  by_test rest true = omega (arith, rest)
+  by_test rest false = omega (arith, rest)
 
 -- ---- Each expectation
 
@@ -70,6 +72,9 @@ seen_of last w = (w.line, verdict_of w last)
 abbrev pub told_of : Setup → List Block → Expected → ℕ × Verdict
 told_of of blocks e = (e.line, told.verdict_of of (story_of of blocks) e.expectation)
 
+abbrev OverOne : Setup → Expected → Type 0
+OverOne of e = IsOver of.world.facts e.expectation
+
 each_told : (of : Setup) (blocks : List Block) (es : List Expected) (ws : List Watched) → AreBegun of.world.facts (opening_facts of.world) es ws → AreOver of.world.facts es →
     map (seen_of (last_of 0 (sights_of of blocks (opening_facts of.world)))) (map (sights_watched (sights_of of blocks (opening_facts of.world)) []) ws) ≡ map (told_of of blocks) es
 each_told of blocks [] [] begun over = refl
@@ -79,8 +84,8 @@ each_told of blocks (e ∷ es) (w ∷ ws) begun over =
     let sights : List Sight = sights_of of blocks (opening_facts of.world) in
     let line : (sights_watched sights [] w).line ≡ e.line = sights_line sights [] w ∙ begun.0.line in
     let verdict : verdict_of (sights_watched sights [] w) (last_of 0 sights) ≡ told.verdict_of of (story_of of blocks) e.expectation =
-        begun_tells of.world.facts (opening_facts of.world) e w begun.0 over.0 sights in
-    let rest = each_told of blocks es ws begun.1 over.1 in
+        begun_tells of.world.facts (opening_facts of.world) e w begun.0 (All-head (OverOne of) e es over) sights in
+    let rest = each_told of blocks es ws begun.1 (All-tail (OverOne of) e es over) in
     (λ i. (line i, verdict i) ∷ rest i)
 
 module _ (of : Setup) (expected : List Expected) (s : State) (begun : BegunOn of expected s) (blocks : List Block) where

@@ -75,12 +75,10 @@ begins names facts (expected.Order first second) memo is = (ap (is_lost_now fact
 pub begun_tells : (names : List Fact) (facts : List ℤ) (e : Expected) (w : Watched) → IsBegun names facts e w → IsOver names e.expectation → (sights : List Sight) →
     verdict_of (sights_watched sights [] w) (last_of 0 sights) ≡ verdict_after names facts e.expectation [] sights 0
 begun_tells names facts e w begun over sights = by_loss (is_lost names e.expectation (so_far facts [])) refl where
-  abbrev KeepsIt : List Sight → Memo → Type 0
-  KeepsIt = KeepsOf names facts e.expectation
   first : Begins names facts e.expectation w.memo
   first = begins names facts e.expectation w.memo begun.memo
   lost_is : (b : Bool) → is_lost names e.expectation (so_far facts []) ≡ b → w.lost ≡ cond b (Some 0) None
   lost_is b is = begun.lost ∙ ap (λ (x : Bool). cond x (Some 0) None) (first.0 ∙ is)
   by_loss : (b : Bool) → is_lost names e.expectation (so_far facts []) ≡ b → verdict_of (sights_watched sights [] w) (last_of 0 sights) ≡ verdict_after names facts e.expectation [] sights 0
-  by_loss true is = follows_lost names facts e.expectation KeepsIt (follows_any names facts e.expectation over) [] sights [] 0 w (lost_is true is) is
-  by_loss false is = follows names facts e.expectation KeepsIt (follows_any names facts e.expectation over) sights [] 0 w (lost_is false is) first.1 is
+  by_loss true is = follows_lost names facts e.expectation (KeepsOf names facts e.expectation) (follows_any names facts e.expectation over) [] sights [] 0 w (lost_is true is) is
+  by_loss false is = follows names facts e.expectation (KeepsOf names facts e.expectation) (follows_any names facts e.expectation over) sights [] 0 w (lost_is false is) first.1 is

@@ -22,10 +22,10 @@ use Rattle.text_trace.specs.Traces.{ended}
 
 find_both : {X : Type 0} (p : X → Bool) (xs ys : List X) → find p (xs ++ ys) ≡ option_or (find p xs) (find p ys)
 find_both p [] ys = refl
-find_both p (x ∷ xs) ys = by_test (p x) where
-  by_test : (b : Bool) → cond b (Some x) (find p (xs ++ ys)) ≡ option_or (cond b (Some x) (find p xs)) (find p ys)
-  by_test true = refl
-  by_test false = find_both p xs ys
+find_both p (x ∷ xs) ys = by_test (find_both p xs ys) (p x) where
+  by_test : find p (xs ++ ys) ≡ option_or (find p xs) (find p ys) → (b : Bool) → cond b (Some x) (find p (xs ++ ys)) ≡ option_or (cond b (Some x) (find p xs)) (find p ys)
+  by_test rest true = refl
+  by_test rest false = rest
 
 or_none : {X : Type 0} (o : Option X) → option_or o None ≡ o
 or_none None = refl
