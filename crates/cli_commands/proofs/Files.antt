@@ -4,7 +4,7 @@ use Rattle.std.specs.Prelude.{IfSome, MatchOption}
 use Rattle.std.proofs.lemmas.Grind.{common_steps}
 use Rattle.spec_program.specs.declared.exit.Exit.{Exit}
 use Rattle.spec_program.specs.declared.exit.Exit.TheVariants as exit
-use Rattle.spec_program.specs.Words.{Command, Tick, Live, Load, Check, Dead, Exclusive, Plan, Mock, MockPrint, Ground, GroundPlan}
+use Rattle.spec_program.specs.Words.{Command, Tick, Live, Load, Check, Dead, Exclusive, Plan, Mock, MockPrint, Ground, GroundPlan, Expect}
 use Rattle.spec_output.specs.LoadTexts.{tree_text, world_text}
 use Rattle.spec_tree.specs.declared.term.Tree.{Tree}
 use Rattle.spec_world.specs.declared.world.World.{World}
@@ -32,6 +32,8 @@ use Rattle.cli_refusals.specs.Ends.{Ends, EndsAt, IsUntouched}
 use Rattle.spec_program.specs.Files.{Contents}
 use Rattle.spec_program.specs.Jobs.{FilesBegin, FilesGive, files_of}
 use Rattle.spec_program.specs.Output.{AreUncalled, Begun, Ending, Output}
+use Rattle.spec_program.specs.Expecting.{ExpectGives, Expects, JoinExpects, TreeExpects, setup}
+use Rattle.spec_run.specs.Joins.{lack_of}
 use Rattle.spec_program.specs.Gives.{CourseGives, Giving, MadeGives, MockGives, Mocks, PrintGives, Prints, PrintsMade, ReadGives, RunGives, RunsOn, ScriptMocks, Standing, is_too_long, itself, made_output, mocked, mocked_apart, standing_output}
 use Rattle.cli_commands.specs.Standing.{StandingGives}
 use Rattle.spec_program.specs.Courses.{Given, given}
@@ -212,6 +214,23 @@ pub long_made_rules : (main : Option (List ℕ)) → LongLast (PrintsMade main)
 long_made_rules main files moments drivers st long =
     match_false (is_too_long files.tree) _ _ (short_is files.tree st) (match_true (is_too_long files.rules) _ _ (long_is files.rules long) refl)
 
+-- .. of the three files of a run of which something is expected
+abbrev pub LongExpect : Giving → Type 0
+LongExpect Gives = (files : Contents) (moments : Moments) (drivers : List DriverState) → length files.tree ≤ most_file_bytes → length files.world ≤ most_file_bytes
+    → most_file_bytes < length files.expect → Gives files moments drivers (too_long file.Expect)
+
+pub long_expects : (main : Option (List ℕ)) → LongTree (Expects main)
+long_expects main files moments drivers long = match_true (is_too_long files.tree) _ _ (long_is files.tree long) refl
+
+pub long_expects_world : (main : Option (List ℕ)) → LongWorld (Expects main)
+long_expects_world main files moments drivers st long =
+    match_false (is_too_long files.tree) _ _ (short_is files.tree st) (match_true (is_too_long files.world) _ _ (long_is files.world long) refl)
+
+pub long_expected : (main : Option (List ℕ)) → LongExpect (Expects main)
+long_expected main files moments drivers st sw long =
+    match_false (is_too_long files.tree) _ _ (short_is files.tree st)
+    (match_false (is_too_long files.world) _ _ (short_is files.world sw) (match_true (is_too_long files.expect) _ _ (long_is files.expect long) refl))
+
 -- a file that is told is as long as its bytes
 told_short : (holds : Option (List ℕ → List ℕ)) (name bytes : List ℕ) → Told holds name (λ file. bytes ≡ file) → length bytes ≤ most_file_bytes → Told holds name (λ file. length file ≤ most_file_bytes)
 told_short None name bytes told short = tt
@@ -269,6 +288,7 @@ module _ {Shelf : Type 0} (read_gives : Reading Shelf) (faults : Shelf → ℕ) 
   stop_at which name files old new refusal.NoGoal u = absurd u
   stop_at which name files old new (refusal.Rules f) u = absurd u
   stop_at which name files old new (refusal.Ground f) u = absurd u
+  stop_at which name files old new (refusal.Expect f) u = absurd u
 
   pub stop_first : (which : File) (name : Option (List ℕ)) (files : List NamedFile) (old new : Shelf) (r : Refusal) → IsUnreadIfNamed read_gives faults holds which name r old new
       → Stops (if_named which name ++ files) r old new
@@ -281,7 +301,7 @@ module _ {Shelf : Type 0} (read_gives : Reading Shelf) (faults : Shelf → ℕ) 
 
 -- the bytes of a world file alone
 abbrev pub alone : List ℕ → Contents
-alone bytes = record { tree = []; world = bytes; rules = [] }
+alone bytes = record { tree = []; world = bytes; rules = []; expect = [] }
 
 -- a world file is the one file of a command, and it is refused where it is too long
 abbrev pub LongAlone : Giving → Type 0
@@ -347,6 +367,32 @@ module _ (main : Option (List ℕ)) (tree rules : List ℕ) (st : length tree �
       at_any a.clock (λ moments. Ends (MadeGives main tree rules) AreUncalled (Ok exit) a (side written faults a.clock a.drivers))
       (λ moments. inl (print_made (Ok made), made_as t (Ok made) reads is, printed a.clock a.drivers a.drivers (λ place. refl)))
 
+-- the bytes of the three files of a run of which something is expected, which are not too long
+module _ (main : Option (List ℕ)) (tree world expect : List ℕ) (st : length tree ≤ most_file_bytes) (sw : length world ≤ most_file_bytes) (sx : length expect ≤ most_file_bytes) where
+  abbrev pub Expecting : Ending
+  Expecting = ExpectGives main tree world expect
+
+  expect_gives : (moments : Moments) (drivers : List DriverState) (r : Result Tree TreeFault) (o : Output) → TreeReads main tree r → TreeExpects r world expect drivers o → Expecting moments drivers o
+  expect_gives moments drivers r o reads expects =
+      match_false (is_too_long tree) _ _ (short_is tree st) (match_false (is_too_long world) _ _ (short_is world sw)
+      (match_false (is_too_long expect) _ _ (short_is expect sx) (r, reads, expects)))
+
+  pub expect_tree_stopped : (stopped : Stop TreeFault) (a : Side) → ReadsAs (Err stopped) main tree → EndsAt Expecting AreUncalled (Err (stopped_as refusal.Tree stopped)) a a
+  expect_tree_stopped (stop.Fault f) a reads = refused_ends Expecting AreUncalled (refusal.Tree f) a (λ moments. expect_gives moments a.drivers (Err f) (tree_refused f) reads refl)
+  expect_tree_stopped stop.NoMemory a reads = refused_ends Expecting AreUncalled refusal.NoMemory a (λ moments. tt)
+
+  pub expect_world_stopped : (t : Tree) (stopped : Stop WorldFault) (a : Side) → ReadsAs (Ok t) main tree → (let r : Result World (Stop WorldFault) = Err stopped in Gives r (ReadsWorld world)) → EndsAt Expecting AreUncalled (Err (stopped_as refusal.World stopped)) a a
+  expect_world_stopped t (stop.Fault f) a reads described = refused_ends Expecting AreUncalled (refusal.World f) a (λ moments. expect_gives moments a.drivers (Ok t) (world_refused f) reads (Err f, described, refl))
+  expect_world_stopped t stop.NoMemory a reads described = refused_ends Expecting AreUncalled refusal.NoMemory a (λ moments. tt)
+
+  -- the tree and the world were parsed
+  pub both_expected : (t : Tree) (w : World) (result : Result Exit Refusal) (a b : Side) → ReadsAs (Ok t) main tree → ReadsWorld world (Ok w)
+      → EndsAt (λ moments drivers. JoinExpects (lack_of t w drivers) (setup t w) expect drivers) AreUncalled result a b → EndsAt Expecting AreUncalled result a b
+  both_expected t w result a b reads described ends =
+      at_more a.clock (λ moments. Ends (JoinExpects (lack_of t w a.drivers) (setup t w) expect a.drivers) AreUncalled result a b) (λ moments. Ends (Expecting moments a.drivers) AreUncalled result a b)
+      (λ moments. ends_more (JoinExpects (lack_of t w a.drivers) (setup t w) expect a.drivers) (Expecting moments a.drivers) AreUncalled AreUncalled
+      (λ o e. expect_gives moments a.drivers (Ok t) o reads (Ok w, described, e)) (λ old new begun. begun) result a b) ends
+
 -- memory ran out when the files of a load were made
 pub load_stopped : (leaves : ℕ) (a : Side) → EndsAt (CourseGives (course.Load leaves) None (tree_text leaves) (world_text leaves)) AreUncalled (Err refusal.NoMemory) a a
 load_stopped leaves a = refused_ends (CourseGives (course.Load leaves) None (tree_text leaves) (world_text leaves)) AreUncalled refusal.NoMemory a (λ moments. tt)
@@ -373,6 +419,7 @@ uncalled_begin (Plan w expand ticks period) files old new same = inl same
 uncalled_begin (Mock t w rules main) files old new same = same
 uncalled_begin (MockPrint t rules main) files old new same = same
 uncalled_begin (Ground w) files old new same = same
+uncalled_begin (Expect t w x main) files old new same = same
 uncalled_begin (GroundPlan w expand ticks period) files old new same = inl same
 
 -- a command was answered after its reads

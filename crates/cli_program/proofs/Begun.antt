@@ -4,16 +4,19 @@ use Rattle.std.specs.Prelude.{option_map}
 use Rattle.spec_run.specs.declared.join_fault.JoinFault.{JoinFault}
 use Rattle.spec_program.specs.declared.exit.Exit.{Exit}
 use Rattle.spec_program.specs.declared.exit.Exit.TheVariants as exit
-use Rattle.spec_program.specs.Words.{Command, Tick, Live, Load, Check, Dead, Exclusive, Plan, Mock, MockPrint, Ground, GroundPlan}
+use Rattle.spec_program.specs.Words.{Command, Tick, Live, Load, Check, Dead, Exclusive, Plan, Mock, MockPrint, Ground, GroundPlan, Expect}
 use Rattle.spec_output.specs.LoadTexts.{tree_text, world_text}
 use Rattle.run_loop.proofs.Preparing.{run_same}
-use Rattle.spec_run.specs.Served.{roster_after_run}
+use Rattle.spec_run.specs.Served.{Setup, roster_after_run}
 use Rattle.spec_run.specs.declared.leaf.Totals.{Totals}
 use Rattle.spec_tree.specs.declared.term.Tree.{Tree}
 use Rattle.spec_world.specs.declared.world.World.{World}
 use Rattle.spec_world_file.specs.declared.world_fault.WorldFault.{WorldFault}
 use Rattle.spec_run.specs.Drivers.{DriverState, driver_at}
-use Rattle.spec_run.specs.Run.{RunnerCall, opening, run_over}
+use Rattle.spec_run.specs.Run.{RunnerCall, opening, run as run_of_script, run_over}
+use Rattle.spec_expect.specs.declared.expect_fault.ExpectFault.{ExpectFault}
+use Rattle.spec_expect.specs.declared.expectation.Expected.{Expected}
+use Rattle.spec_program.specs.Expecting.{ExpectGives, JoinExpects, TreeExpects, WorldExpects, expect_output, expecting, setup}
 use Rattle.spec_world_file.specs.WorldFile.{ReadsWorld}
 use Rattle.spec_world.specs.Worlds.{IsValidWorld}
 use Rattle.base_outside.proofs.Appends.{AppendedPrefix-nothing}
@@ -91,6 +94,32 @@ module _ (Q : Output → Type 0) (line : (bytes : List ℕ) (exit : Exit) → Q 
       by_length (is_too_long tree) o (too_long file.Tree) _ (line _ exit.Tree) p
       (λ p1. by_length (is_too_long world) o (too_long file.World) _ (line _ exit.World) p1
       (λ p2. by_length (is_too_long rules) o (too_long file.Rules) _ (line _ exit.Rules) p2 (λ p3. by_tree p3.0 (mocked rules) world g o run p3.2)))
+
+  -- .. of a run of which something is expected
+  abbrev OfExpecting : List DriverState → Type 0
+  OfExpecting drivers = (of : Setup) (expected : List Expected) → Q (expecting expected of drivers (run_of_script of.tree of.world))
+
+  by_expected : (read : Result (List Expected) ExpectFault) (of : Setup) (drivers : List DriverState) → OfExpecting drivers → Q (expect_output read of drivers)
+  by_expected (Ok expected) of drivers run = run of expected
+  by_expected (Err fault) of drivers run = line _ exit.Expect
+
+  by_joined : (lack : Option JoinFault) (of : Setup) (expect : List ℕ) (drivers : List DriverState) (o : Output) → OfExpecting drivers → JoinExpects lack of expect drivers o → Q o
+  by_joined None of expect drivers o run p = same_output o (expect_output p.0 of drivers) p.2 (by_expected p.0 of drivers run)
+  by_joined (Some fault) of expect drivers o run p = same_output o _ p (line _ exit.World)
+
+  by_expecting_world : (described : Result World WorldFault) (tree : Tree) (expect : List ℕ) (drivers : List DriverState) (o : Output) → OfExpecting drivers → WorldExpects described tree expect drivers o → Q o
+  by_expecting_world (Ok world) tree expect drivers o run p = by_joined (lack_of tree world drivers) (setup tree world) expect drivers o run p
+  by_expecting_world (Err fault) tree expect drivers o run p = same_output o (world_refused fault) p (line _ exit.World)
+
+  by_expecting_tree : (read : Result Tree TreeFault) (world expect : List ℕ) (drivers : List DriverState) (o : Output) → OfExpecting drivers → TreeExpects read world expect drivers o → Q o
+  by_expecting_tree (Ok tree) world expect drivers o run p = by_expecting_world p.0 tree expect drivers o run p.2
+  by_expecting_tree (Err fault) world expect drivers o run p = same_output o (tree_refused fault) p (line _ exit.Tree)
+
+  of_expects : (main : Option (List ℕ)) (tree world expect : List ℕ) (moments : Moments) (drivers : List DriverState) (o : Output) → OfExpecting drivers → ExpectGives main tree world expect moments drivers o → Q o
+  of_expects main tree world expect moments drivers o run p =
+      by_length (is_too_long tree) o (too_long file.Tree) _ (line _ exit.Tree) p
+      (λ p1. by_length (is_too_long world) o (too_long file.World) _ (line _ exit.World) p1
+      (λ p2. by_length (is_too_long expect) o (too_long file.Expect) _ (line _ exit.Expect) p2 (λ p3. by_expecting_tree p3.0 world expect drivers o run p3.2)))
 
   printed : (print : Print) (read : Result Tree TreeFault) → Q (print_output print read)
   printed print (Ok tree) = line _ exit.Done
@@ -211,6 +240,11 @@ module _ (old new : List DriverState) (same : AreUncalled old new) where
       of_mock (Within old new) (λ bytes exit. same) main tree world rules (given course.Script moments old) o
       (λ t w. before_run t w (run_over t w w.events).calls) p
 
+  within_expects : (main : Option (List ℕ)) (tree world expect : List ℕ) (moments : Moments) (o : Output) → ExpectGives main tree world expect moments old o → Within old new o
+  within_expects main tree world expect moments o p =
+      of_expects (Within old new) (λ bytes exit. same) main tree world expect moments old o
+      (λ of expected. before_run of.tree of.world (run_of_script of.tree of.world).calls) p
+
   not_planned : (world : World) (limits : Limits) → IsPlanCut world limits old new
   not_planned world limits = record { trials = []; begins = inl refl; within = uncalled_within old new same }
 
@@ -252,6 +286,7 @@ module _ (cuts : CutLaw) (worlds : WorldLaw) where
       (λ described planned. within_plan described (limits_of expand ticks period) old new o (not_planned old new same described (limits_of expand ticks period)) planned) p
   uncalled_is_within (Mock t w rules main) files moments old new o p same = within_mock old new same main files.tree files.world files.rules moments o p
   uncalled_is_within (MockPrint t rules main) files moments old new o p same = of_made (Within old new) (λ bytes exit. same) main files.tree files.rules o p
+  uncalled_is_within (Expect t w x main) files moments old new o p same = within_expects old new same main files.tree files.world files.expect moments o p
   uncalled_is_within (Ground w) files moments old new o p same = of_ground (Within old new) (λ bytes exit. same) files.world o p
   uncalled_is_within (GroundPlan w expand ticks period) files moments old new o p same =
       of_ground_plan (Within old new) (λ bytes exit. same) (limits_of expand ticks period) files.world old o
@@ -269,6 +304,7 @@ module _ (cuts : CutLaw) (worlds : WorldLaw) where
   begun_is_within (Plan w expand ticks period) files moments old new o p (inr b) = within_file (limits_of expand ticks period) files.world old new o p b
   begun_is_within (Mock t w rules main) files moments old new o p same = uncalled_is_within (Mock t w rules main) files moments old new o p same
   begun_is_within (MockPrint t rules main) files moments old new o p same = uncalled_is_within (MockPrint t rules main) files moments old new o p same
+  begun_is_within (Expect t w x main) files moments old new o p same = uncalled_is_within (Expect t w x main) files moments old new o p same
   begun_is_within (Ground w) files moments old new o p same = uncalled_is_within (Ground w) files moments old new o p same
   begun_is_within (GroundPlan w expand ticks period) files moments old new o p (inl same) = uncalled_is_within (GroundPlan w expand ticks period) files moments old new o p same
   begun_is_within (GroundPlan w expand ticks period) files moments old new o p (inr b) = within_ground (limits_of expand ticks period) files.world old new o p b
@@ -300,11 +336,14 @@ gave_within o exit.Memory a b p = p.drivers
 gave_within o exit.Rules a b p = left_within o.drivers a.drivers b.drivers p.2
 gave_within o exit.Request a b p = left_within o.drivers a.drivers b.drivers p.2
 gave_within o exit.NotExclusive a b p = left_within o.drivers a.drivers b.drivers p.2
+gave_within o exit.Expect a b p = left_within o.drivers a.drivers b.drivers p.2
+gave_within o exit.Unmet a b p = left_within o.drivers a.drivers b.drivers p.2
 
 unread_uncalled : (f : File) (old new : List DriverState) → Within old new (unread f) → AreUncalled old new
 unread_uncalled file.Tree old new p = p
 unread_uncalled file.World old new p = p
 unread_uncalled file.Rules old new p = p
+unread_uncalled file.Expect old new p = p
 
 -- no driver was called where a file was not read
 pub unread_called_none : (f : File) (result : Exit) (a b : Side) → Gave (unread f) result a b → AreUncalled a.drivers b.drivers
@@ -328,12 +367,15 @@ gave_unasked o exit.Write a b never p = subst (λ (k : Asked). ClockWithin k a.c
 gave_unasked o exit.Rules a b never p = subst (λ (k : Asked). ClockLeft k a.clock b.clock) never p.3
 gave_unasked o exit.Request a b never p = subst (λ (k : Asked). ClockLeft k a.clock b.clock) never p.3
 gave_unasked o exit.NotExclusive a b never p = subst (λ (k : Asked). ClockLeft k a.clock b.clock) never p.3
+gave_unasked o exit.Expect a b never p = subst (λ (k : Asked). ClockLeft k a.clock b.clock) never p.3
+gave_unasked o exit.Unmet a b never p = subst (λ (k : Asked). ClockLeft k a.clock b.clock) never p.3
 gave_unasked o exit.Memory a b never p = subst (λ (k : Asked). ClockWithin k a.clock b.clock) never p.clock
 
 pub unread_unasked : (f : File) → IsUnasked (unread f)
 unread_unasked file.Tree = refl
 unread_unasked file.World = refl
 unread_unasked file.Rules = refl
+unread_unasked file.Expect = refl
 
 -- no output of a command but `live` asks it
 pub files_unasked : (c : Command) (files : Contents) (moments : Moments) (drivers : List DriverState) (o : Output) → IsNotLive (Some c) → FilesGive c files moments drivers o → IsUnasked o
@@ -347,6 +389,7 @@ files_unasked (Plan w expand ticks period) files moments drivers o other p =
     of_plan IsUnasked (λ bytes exit. refl) (limits_of expand ticks period) files.world drivers o (λ described planned. ap (λ (z : Output). z.asked) planned.is) p
 files_unasked (Mock t w rules main) files moments drivers o other p = of_mock IsUnasked (λ bytes exit. refl) main files.tree files.world files.rules (given course.Script moments drivers) o (λ t w. refl) p
 files_unasked (MockPrint t rules main) files moments drivers o other p = of_made IsUnasked (λ bytes exit. refl) main files.tree files.rules o p
+files_unasked (Expect t w x main) files moments drivers o other p = of_expects IsUnasked (λ bytes exit. refl) main files.tree files.world files.expect moments drivers o (λ of expected. refl) p
 files_unasked (Ground w) files moments drivers o other p = of_ground IsUnasked (λ bytes exit. refl) files.world o p
 files_unasked (GroundPlan w expand ticks period) files moments drivers o other p =
     of_ground_plan IsUnasked (λ bytes exit. refl) (limits_of expand ticks period) files.world drivers o (λ described planned. ap (λ (z : Output). z.asked) planned.is) p

@@ -1,5 +1,5 @@
 -- The clauses of `bt`, one by one, by what its words were answered.
-use Rattle.std.proofs.Common.{◌≡◌, ℕ, List, [], ◌∷◌, ◌++◌, map, Bool, true, false, ◌⊎◌, inl, inr, Option, Some, None, refl, sym, ap, subst, ◌∙◌, MatchBool, Result, Ok, Err}
+use Rattle.std.proofs.Common.{◌≡◌, ℕ, nat_eq, if◌then◌else◌, List, [], ◌∷◌, ◌++◌, map, Bool, true, false, ◌⊎◌, inl, inr, Option, Some, None, refl, sym, ap, subst, ◌∙◌, MatchBool, Result, Ok, Err}
 use Rattle.spec_tree_file.specs.declared.element.Element.{Element}
 use Rattle.spec_tree_file.specs.declared.element.ElementFault.{ElementFault}
 use Rattle.spec_tree_file.specs.Elements.{Spells}
@@ -39,6 +39,13 @@ use Rattle.std.specs.List.{concat}
 use Rattle.spec_program.specs.Files.{Contents, Named, world_alone}
 use Rattle.spec_world_file.specs.declared.ground_fault.GroundFault.{GroundFault}
 use Rattle.spec_world_file.specs.GroundFile.{Grounded, MakesWorld, reads_ground, world_from}
+use Rattle.spec_expect.specs.declared.expect_fault.ExpectFault.{ExpectFault}
+use Rattle.spec_expect.specs.declared.expectation.Expected.{Expected}
+use Rattle.spec_expect.specs.ExpectFile.{ReadsExpected}
+use Rattle.spec_run.specs.Run.{run}
+use Rattle.spec_run.specs.Served.{Setup}
+use Rattle.spec_program.specs.Expecting.{ExpectGives, JoinExpects, TreeExpects, WorldExpects, expect_exit, expect_output, setup}
+use Rattle.spec_expect.specs.Verdicts.{failed}
 use Rattle.spec_program.specs.Grounds.{GroundBegins, GroundGives, GroundPlanGives, GroundPlans, GroundedPlans, SaidPlans}
 use Rattle.spec_program.specs.Printed.{ground_output, print_made, print_output}
 use Rattle.spec_program.specs.Jobs.{CommandGives, FilesBegin, FilesGive, files_of, held, held_by}
@@ -51,7 +58,7 @@ use Rattle.spec_program.specs.Courses.{Given, given, joined_output, run_exit}
 use Rattle.spec_run.specs.Joins.{lack_of}
 use Rattle.spec_program.specs.Refused.{ground_refused, join_refused, no_goal, too_long, tree_refused, unread, words_refused, world_refused}
 use Rattle.spec_program.specs.TreeFiles.{TreeReads, built, element_read, with_models}
-use Rattle.spec_program.specs.Words.{Command, Tick, Live, Load, Check, Dead, Exclusive, Plan, Mock, MockPrint, Ground, GroundPlan}
+use Rattle.spec_program.specs.Words.{Command, Tick, Live, Load, Check, Dead, Exclusive, Plan, Mock, MockPrint, Ground, GroundPlan, Expect}
 use Rattle.spec_program.specs.declared.file.File.{File}
 use Rattle.spec_program.specs.declared.file.File.TheVariants as file
 use Rattle.spec_run.specs.declared.join_fault.JoinFault.{JoinFault}
@@ -69,12 +76,13 @@ use Rattle.spec_outside.specs.Counts.{Rose}
 use Rattle.spec_outside.specs.Moments.{Moments}
 
 -- each file reads in one way: its bytes spell one element or have one fault, and never both, and they describe one world
--- or have one fault; and a world is planned for in one way
+-- or have one fault; expectations of a tree in a world too; and a world is planned for in one way
 pub record OneReading : Type 0 where
   pub element : (bytes : List ℕ) (a b : Element) → Spells bytes a → Spells bytes b → a ≡ b
   pub fault : (bytes : List ℕ) (a b : ElementFault) → ElementFaultOf bytes a → ElementFaultOf bytes b → a ≡ b
   pub not_both : (bytes : List ℕ) (e : Element) (f : ElementFault) → Spells bytes e → ElementFaultOf bytes f → ⊥
   pub world : (bytes : List ℕ) (a b : Result World WorldFault) → ReadsWorld bytes a → ReadsWorld bytes b → a ≡ b
+  pub expect : (tree : Tree) (world : World) (bytes : List ℕ) (a b : Result (List Expected) ExpectFault) → ReadsExpected tree world bytes a → ReadsExpected tree world bytes b → a ≡ b
   pub plan : (world : World) (limits : Limits) (before : List DriverState) → IsValidWorld world → (after other : List DriverState) (planned again : PlanEnd) →
       IsPlan world limits before after planned → IsPlan world limits before other again → (planned ≡ again) × (after ≡ other)
 
@@ -111,6 +119,26 @@ one_mock : OneReading → (main : Option (List ℕ)) (tree world rules : List �
 one_mock one main tree world rules g x y p q =
     one_if (is_too_long tree) x y (too_long file.Tree) _ _ p q (λ p1 q1. one_if (is_too_long world) x y (too_long file.World) _ _ p1 q1
     (λ p2 q2. one_if (is_too_long rules) x y (too_long file.Rules) _ _ p2 q2 (λ p3 q3. one_read one main (mocked rules) tree world g x y p3 q3)))
+
+one_joined : OneReading → (lack : Option JoinFault) (of : Setup) (expect : List ℕ) (drivers : List DriverState) (x y : Output) → JoinExpects lack of expect drivers x → JoinExpects lack of expect drivers y → x ≡ y
+one_joined one None of expect drivers x y p q =
+    p.2 ∙ ap (λ (r : Result (List Expected) ExpectFault). expect_output r of drivers) (one.expect of.tree of.world expect p.0 q.0 p.1 q.1) ∙ sym q.2
+one_joined one (Some fault) of expect drivers x y p q = p ∙ sym q
+
+one_expecting_world : OneReading → (described : Result World WorldFault) (tree : Tree) (expect : List ℕ) (drivers : List DriverState) (x y : Output) → WorldExpects described tree expect drivers x → WorldExpects described tree expect drivers y → x ≡ y
+one_expecting_world one (Ok world) tree expect drivers x y p q = one_joined one (lack_of tree world drivers) (setup tree world) expect drivers x y p q
+one_expecting_world one (Err fault) tree expect drivers x y p q = p ∙ sym q
+
+one_expecting_tree : OneReading → (read : Result Tree TreeFault) (world expect : List ℕ) (drivers : List DriverState) (x y : Output) → TreeExpects read world expect drivers x → TreeExpects read world expect drivers y → x ≡ y
+one_expecting_tree one (Ok tree) world expect drivers x y p q =
+    one_expecting_world one q.0 tree expect drivers x y (subst (λ (r : Result World WorldFault). WorldExpects r tree expect drivers x) (one.world world p.0 q.0 p.1 q.1) p.2) q.2
+one_expecting_tree one (Err fault) world expect drivers x y p q = p ∙ sym q
+
+one_expects : OneReading → (main : Option (List ℕ)) (tree world expect : List ℕ) (moments : Moments) (drivers : List DriverState) (x y : Output) → ExpectGives main tree world expect moments drivers x → ExpectGives main tree world expect moments drivers y → x ≡ y
+one_expects one main tree world expect moments drivers x y p q =
+    one_if (is_too_long tree) x y (too_long file.Tree) _ _ p q (λ p1 q1. one_if (is_too_long world) x y (too_long file.World) _ _ p1 q1
+    (λ p2 q2. one_if (is_too_long expect) x y (too_long file.Expect) _ _ p2 q2
+    (λ p3 q3. one_expecting_tree one q3.0 world expect drivers x y (subst (λ (r : Result Tree TreeFault). TreeExpects r world expect drivers x) (one_tree one main tree p3.0 q3.0 p3.1 q3.1) p3.2) q3.2)))
 
 one_print : OneReading → (print : Print) (main : Option (List ℕ)) (tree : List ℕ) (x y : Output) → PrintGives print main tree x → PrintGives print main tree y → x ≡ y
 one_print one print main tree x y p q =
@@ -175,6 +203,7 @@ one_files one (Check t main) files moments drivers x y p q = one_print one print
 one_files one (Dead t main) files moments drivers x y p q = one_print one print.Dead main files.tree x y p q
 one_files one (Exclusive t ids main) files moments drivers x y p q = one_exclusive one ids main files.tree x y p q
 one_files one (Plan w expand ticks period) files moments drivers x y p q = one_plan one (limits_of expand ticks period) files.world drivers x y p q
+one_files one (Expect t w e main) files moments drivers x y p q = one_expects one main files.tree files.world files.expect moments drivers x y p q
 one_files one (Ground w) files moments drivers x y p q = one_ground files.world x y p q
 one_files one (GroundPlan w expand ticks period) files moments drivers x y p q = one_ground_plan one (limits_of expand ticks period) files.world drivers x y p q
 one_files one (Mock t w rules main) files moments drivers x y p q = one_mock one main files.tree files.world files.rules (given course.Script moments drivers) x y p q
@@ -194,6 +223,8 @@ whole_given o exit.Memory a b i p = absurd i
 whole_given o exit.Rules a b i p = p
 whole_given o exit.Request a b i p = p
 whole_given o exit.NotExclusive a b i p = p
+whole_given o exit.Expect a b i p = p
+whole_given o exit.Unmet a b i p = p
 
 -- where the sink's count did not rise, the output is whole or memory ran out
 whole_or_memory : (o : Output) (result : Exit) (a b : Side) → (Rose a.faults b.faults → ⊥) → Gave o result a b → (result ≡ exit.Memory) ⊎ IsWhole o result a b
@@ -209,6 +240,8 @@ whole_or_memory o exit.Memory a b n p = inl refl
 whole_or_memory o exit.Rules a b n p = inr p
 whole_or_memory o exit.Request a b n p = inr p
 whole_or_memory o exit.NotExclusive a b n p = inr p
+whole_or_memory o exit.Expect a b n p = inr p
+whole_or_memory o exit.Unmet a b n p = inr p
 
 -- where a write failed the sink's count rose
 write_gave : (o : Output) (result : Exit) (a b : Side) → result ≡ exit.Write → Gave o result a b → Rose a.faults b.faults
@@ -220,7 +253,7 @@ only (Some name) bytes = bytes
 only None bytes = []
 
 abbrev own : Named → Contents → Contents
-own named files = record { tree = only named.tree files.tree; world = only named.world files.world; rules = only named.rules files.rules }
+own named files = record { tree = only named.tree files.tree; world = only named.world files.world; rules = only named.rules files.rules; expect = only named.expect files.expect }
 
 -- what the shelf tells
 held_is : (h : List ℕ → List ℕ) (name : Option (List ℕ)) (bytes : List ℕ) → ToldIfNamed (Some h) name (λ file. bytes ≡ file) → only name bytes ≡ held h name
@@ -229,9 +262,10 @@ held_is h (Some name) bytes told = told
 
 told_is : (h : List ℕ → List ℕ) (named : Named) (files : Contents) → AreTold (Some h) named files → own named files ≡ held_by h named
 told_is h named files told =
-    ap (λ (z : List ℕ). let c : Contents = record { tree = z; world = only named.world files.world; rules = only named.rules files.rules } in c) (held_is h named.tree files.tree told.tree)
-    ∙ ap (λ (z : List ℕ). let c : Contents = record { tree = held h named.tree; world = z; rules = only named.rules files.rules } in c) (held_is h named.world files.world told.world)
-    ∙ ap (λ (z : List ℕ). let c : Contents = record { tree = held h named.tree; world = held h named.world; rules = z } in c) (held_is h named.rules files.rules told.rules)
+    ap (λ (z : List ℕ). let c : Contents = record { tree = z; world = only named.world files.world; rules = only named.rules files.rules; expect = only named.expect files.expect } in c) (held_is h named.tree files.tree told.tree)
+    ∙ ap (λ (z : List ℕ). let c : Contents = record { tree = held h named.tree; world = z; rules = only named.rules files.rules; expect = only named.expect files.expect } in c) (held_is h named.world files.world told.world)
+    ∙ ap (λ (z : List ℕ). let c : Contents = record { tree = held h named.tree; world = held h named.world; rules = z; expect = only named.expect files.expect } in c) (held_is h named.rules files.rules told.rules)
+    ∙ ap (λ (z : List ℕ). let c : Contents = record { tree = held h named.tree; world = held h named.world; rules = held h named.rules; expect = z } in c) (held_is h named.expect files.expect told.expect)
 
 -- an output is about the files that are named alone
 of_own : (c : Command) (files : Contents) (moments : Moments) (drivers : List DriverState) (o : Output) → FilesGive c files moments drivers o → FilesGive c (own (files_of c) files) moments drivers o
@@ -244,6 +278,7 @@ of_own (Exclusive t ids main) files moments drivers o p = p
 of_own (Plan w expand ticks period) files moments drivers o p = p
 of_own (Mock t w rules main) files moments drivers o p = p
 of_own (MockPrint t rules main) files moments drivers o p = p
+of_own (Expect t w x main) files moments drivers o p = p
 of_own (Ground w) files moments drivers o p = p
 of_own (GroundPlan w expand ticks period) files moments drivers o p = p
 
@@ -257,6 +292,7 @@ from_own (Exclusive t ids main) files moments drivers o p = p
 from_own (Plan w expand ticks period) files moments drivers o p = p
 from_own (Mock t w rules main) files moments drivers o p = p
 from_own (MockPrint t rules main) files moments drivers o p = p
+from_own (Expect t w x main) files moments drivers o p = p
 from_own (Ground w) files moments drivers o p = p
 from_own (GroundPlan w expand ticks period) files moments drivers o p = p
 
@@ -302,6 +338,7 @@ needed (Exclusive t ids main) files result a b clock x = x.holds
 needed (Plan w expand ticks period) files result a b clock x = x.holds
 needed (Mock t w rules main) files result a b clock x = x.holds
 needed (MockPrint t rules main) files result a b clock x = x.holds
+needed (Expect t w e main) files result a b clock x = x.holds
 needed (Ground w) files result a b clock x = x.holds
 needed (GroundPlan w expand ticks period) files result a b clock x = x.holds
 
@@ -376,6 +413,8 @@ IsOfFiles exit.Fault = Unit {0}
 IsOfFiles exit.NoPlan = Unit {0}
 IsOfFiles exit.Rules = Unit {0}
 IsOfFiles exit.NotExclusive = Unit {0}
+IsOfFiles exit.Expect = Unit {0}
+IsOfFiles exit.Unmet = Unit {0}
 IsOfFiles _ = ⊥
 
 same_exit : (o z : Output) → o ≡ z → IsOfFiles z.exit → IsOfFiles o.exit
@@ -418,6 +457,34 @@ exit_of_mock : (main : Option (List ℕ)) (tree world rules : List ℕ) (g : Giv
 exit_of_mock main tree world rules g o p =
     exit_of_long (is_too_long tree) o (too_long file.Tree) _ tt p (λ p1. exit_of_long (is_too_long world) o (too_long file.World) _ tt p1
     (λ p2. exit_of_long (is_too_long rules) o (too_long file.Rules) _ tt p2 (λ p3. exit_of_tree p3.0 (mocked rules) world g o p3.2)))
+
+exit_of_count : (fault : Option RunFault) (failed : ℕ) → IsOfFiles (expect_exit fault failed)
+exit_of_count (Some fault) failed = tt
+exit_of_count None failed = by_test (nat_eq failed 0) where
+  by_test : (b : Bool) → IsOfFiles (if b then exit.Done else exit.Unmet)
+  by_test true = tt
+  by_test false = tt
+
+exit_of_expected : (read : Result (List Expected) ExpectFault) (of : Setup) (drivers : List DriverState) → IsOfFiles (expect_output read of drivers).exit
+exit_of_expected (Ok expected) of drivers = exit_of_count (run of.tree of.world).fault (failed of (run of.tree of.world).blocks expected)
+exit_of_expected (Err fault) of drivers = tt
+
+exit_of_joined : (lack : Option JoinFault) (of : Setup) (expect : List ℕ) (drivers : List DriverState) (o : Output) → JoinExpects lack of expect drivers o → IsOfFiles o.exit
+exit_of_joined None of expect drivers o p = same_exit o (expect_output p.0 of drivers) p.2 (exit_of_expected p.0 of drivers)
+exit_of_joined (Some fault) of expect drivers o p = same_exit o (join_refused fault) p tt
+
+exit_of_expecting_world : (described : Result World WorldFault) (tree : Tree) (expect : List ℕ) (drivers : List DriverState) (o : Output) → WorldExpects described tree expect drivers o → IsOfFiles o.exit
+exit_of_expecting_world (Ok world) tree expect drivers o p = exit_of_joined (lack_of tree world drivers) (setup tree world) expect drivers o p
+exit_of_expecting_world (Err fault) tree expect drivers o p = same_exit o (world_refused fault) p tt
+
+exit_of_expecting_tree : (read : Result Tree TreeFault) (world expect : List ℕ) (drivers : List DriverState) (o : Output) → TreeExpects read world expect drivers o → IsOfFiles o.exit
+exit_of_expecting_tree (Ok tree) world expect drivers o p = exit_of_expecting_world p.0 tree expect drivers o p.2
+exit_of_expecting_tree (Err fault) world expect drivers o p = same_exit o (tree_refused fault) p tt
+
+exit_of_expects : (main : Option (List ℕ)) (tree world expect : List ℕ) (moments : Moments) (drivers : List DriverState) (o : Output) → ExpectGives main tree world expect moments drivers o → IsOfFiles o.exit
+exit_of_expects main tree world expect moments drivers o p =
+    exit_of_long (is_too_long tree) o (too_long file.Tree) _ tt p (λ p1. exit_of_long (is_too_long world) o (too_long file.World) _ tt p1
+    (λ p2. exit_of_long (is_too_long expect) o (too_long file.Expect) _ tt p2 (λ p3. exit_of_expecting_tree p3.0 world expect drivers o p3.2)))
 
 exit_of_print : (print : Print) (main : Option (List ℕ)) (tree : List ℕ) (o : Output) → PrintGives print main tree o → IsOfFiles o.exit
 exit_of_print print main tree o p =
@@ -498,6 +565,7 @@ exit_of_files (Check t main) files moments drivers o p = exit_of_print print.Who
 exit_of_files (Dead t main) files moments drivers o p = exit_of_print print.Dead main files.tree o p
 exit_of_files (Exclusive t ids main) files moments drivers o p = exit_of_exclusive ids main files.tree o p
 exit_of_files (Plan w expand ticks period) files moments drivers o p = exit_of_plan (limits_of expand ticks period) files.world drivers o p
+exit_of_files (Expect t w e main) files moments drivers o p = exit_of_expects main files.tree files.world files.expect moments drivers o p
 exit_of_files (Ground w) files moments drivers o p = exit_of_ground files.world o p
 exit_of_files (GroundPlan w expand ticks period) files moments drivers o p = exit_of_ground_plan (limits_of expand ticks period) files.world drivers o p
 exit_of_files (Mock t w rules main) files moments drivers o p = exit_of_mock main files.tree files.world files.rules (given course.Script moments drivers) o p
@@ -508,16 +576,19 @@ unread_left : (f : File) (a b : Side) → DriversLeft (unread f).drivers a.drive
 unread_left file.Tree a b p = p
 unread_left file.World a b p = p
 unread_left file.Rules a b p = p
+unread_left file.Expect a b p = p
 
 not_given : (f : File) → IsGiven (unread f).exit → ⊥
 not_given file.Tree x = x
 not_given file.World x = x
 not_given file.Rules x = x
+not_given file.Expect x = x
 
 not_words : (f : File) → (unread f).exit ≡ exit.Words → ⊥
 not_words file.Tree e = cc
 not_words file.World e = cc
 not_words file.Rules e = cc
+not_words file.Expect e = cc
 
 -- what was given whole, and what a failed read gave
 module _ (c : Command) (result : Exit) (shelf : Type 0) (IsUnread : File → Type 0) (a b : Side) where
@@ -725,6 +796,7 @@ module _ (holds : Option (List ℕ → List ℕ)) (result : Exit) (shelf : Type 
   planned_done laws (Some (Exclusive t ids main)) answered = tt
   planned_done laws (Some (Mock t w rules main)) answered = tt
   planned_done laws (Some (MockPrint t rules main)) answered = tt
+  planned_done laws (Some (Expect t w e main)) answered = tt
   planned_done laws (Some (Ground w)) answered = tt
   planned_done laws (Some (GroundPlan w expand ticks period)) answered = ground_reached_of laws (limits_of expand ticks period) holds w a b shelf IsUnread answered
   planned_done laws (Some (Plan w expand ticks period)) answered = reached_of laws (limits_of expand ticks period) holds w a b shelf IsUnread answered

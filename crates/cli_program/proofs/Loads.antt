@@ -24,7 +24,7 @@ module _ {Shelf : Type 0} (read_gives : Reading Shelf) (leaves : ℕ) (rose : Ty
     reads = reads;
     answered = record {
       files = answered.files;
-      told = record { told = record { tree = tt; world = tt; rules = tt }; short = answered.told.short };
+      told = record { told = record { tree = tt; world = tt; rules = tt; expect = tt }; short = answered.told.short };
       answers = answered.answers;
     };
   }

@@ -12,6 +12,7 @@ use crate::boxes::Boxes;
 use base_outside::{Clock, Shelf, Sink};
 use base_texts::Name;
 use cli_commands::run_words;
+use expect_reader::laws::expectations_read_one_way;
 use plan_search::laws::{plan_cuts_begin_within, plans_reach, plans_run_one_way};
 use run_driver::Driver;
 use spec_program::Exit;
@@ -83,6 +84,7 @@ pub fn bt<S: Shelf, K: Sink, C: Clock>(
     one_element();
     element_or_fault();
     worlds_read_one_way();
+    expectations_read_one_way();
     plans_run_one_way();
     plan_cuts_begin_within();
     plans_reach();

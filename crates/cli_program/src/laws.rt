@@ -15,6 +15,7 @@ ghost use Rattle.cli_program.specs.LawWords.{IsNotLive, ShelfAnswered, UnreadLin
 ghost use Rattle.spec_program.specs.Refused.{words_refused};
 
 use base_outside::Shelf;
+use expect_reader::laws::expectations_read_one_way;
 use plan_search::laws::{plan_cuts_begin_within, plans_run_one_way};
 use tree_elements::{element_or_fault, one_element};
 use world_reader::laws::worlds_read_one_way;
@@ -73,6 +74,7 @@ pub fn loads_are_answered_over_every_shelf<S: Shelf>(before: &S, after: &S)
     one_element();
     element_or_fault();
     worlds_read_one_way();
+    expectations_read_one_way();
     plans_run_one_way();
     plan_cuts_begin_within();
 }

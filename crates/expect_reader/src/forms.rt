@@ -1,9 +1,9 @@
-ghost use Rattle.std.specs.Prelude.{◌≡◌, codes, option_and_then, true};
+ghost use Rattle.std.specs.Prelude.{◌≡◌, IfErr, IfOk, None, codes, true};
 ghost use Rattle.std.specs.List.{list_all};
 ghost use Rattle.base_texts.specs.Stops.{Gives};
 ghost use Rattle.spec_world_file.specs.WorldFile.{is_line_byte};
-ghost use Rattle.spec_expect.specs.ExpectFile.{AlwaysLine, FormSays, NeverWithLine, OrderLine, at_line, by_line, count_line, ends_line, leaves_line, line_by, line_in, only_line, over_facts, pick_at_front, root_line, then_pick};
-ghost use Rattle.expect_reader.specs.Reading.{GivesSaid, ReadsAs, subject_seen};
+ghost use Rattle.spec_expect.specs.ExpectFile.{AlwaysLine, FormSays, NeverWithLine, OrderLine, Says, at_line, by_line, count_line, ends_line, line_by, line_in, only_line, over_facts, pick_at_front, root_line, then_pick};
+ghost use Rattle.expect_reader.specs.Reading.{GivesSaid, IsBadLine, ReadsAs, last_after, leaves_line, subject_seen};
 
 use crate::answers::{answer_in, end_in, moment_of, runner_in};
 use crate::leaves::leaves_in;
@@ -46,6 +46,8 @@ fn read_always(
     subject: &Subject,
     text: &[u8],
 ) -> Result<Expectation, Stop<ExpectKind>>
+    requires { list_all is_line_byte text.now ≡ true }
+    ensures { GivesSaid result (Says (subject_seen subject.now) (AlwaysLine text.now)) }
 {
     let expr = expression(alloc, text)?;
     Ok(Expectation::Always(over_facts(subject.facts, expr)?))
@@ -57,6 +59,8 @@ fn read_at(
     subject: &Subject,
     text: &[u8],
 ) -> Result<Expectation, Stop<ExpectKind>>
+    requires { list_all is_line_byte text.now ≡ true }
+    ensures { GivesSaid result (FormSays (subject_seen subject.now) (at_line text.now)) }
 {
     let (number, rest) = cut(text);
     if !is_canonical(number) {
@@ -70,6 +74,7 @@ fn read_at(
 
 /// Reads `by MS root R STATUS`.
 fn read_by(subject: &Subject, text: &[u8]) -> Result<Expectation, Stop<ExpectKind>>
+    ensures { GivesSaid result (FormSays (subject_seen subject.now) (by_line text.now)) }
 {
     let (number, rest) = cut(text);
     let (root, rest) = cut(rest);
@@ -88,6 +93,7 @@ fn read_by(subject: &Subject, text: &[u8]) -> Result<Expectation, Stop<ExpectKin
 
 /// Reads `root R never STATUS`.
 fn read_root(subject: &Subject, text: &[u8]) -> Result<Expectation, Stop<ExpectKind>>
+    ensures { GivesSaid result (FormSays (subject_seen subject.now) (root_line text.now)) }
 {
     let (runner, rest) = cut(text);
     let (never, rest) = cut(rest);
@@ -109,6 +115,8 @@ fn read_only(
     pick: &Pick,
     text: &[u8],
 ) -> Result<Expectation, Stop<ExpectKind>>
+    requires { list_all is_line_byte text.now ≡ true }
+    ensures { GivesSaid result (FormSays (subject_seen subject.now) (only_line (pick.now, text.now))) }
 {
     let (only, rest) = cut(text);
     if !is(only, "only") {
@@ -127,6 +135,7 @@ fn read_count(
     pick: &Pick,
     text: &[u8],
 ) -> Result<Expectation, Stop<ExpectKind>>
+    ensures { GivesSaid result (FormSays (subject_seen subject.now) (count_line (pick.now, text.now))) }
 {
     let (op, rest) = cut(text);
     let (number, rest) = cut(rest);
@@ -148,6 +157,7 @@ fn read_ends(
     pick: &Pick,
     text: &[u8],
 ) -> Result<Expectation, Stop<ExpectKind>>
+    ensures { GivesSaid result (FormSays (subject_seen subject.now) (ends_line (pick.now, text.now))) }
 {
     let (answer, rest) = cut(text);
     let (by, rest) = cut(rest);
@@ -165,6 +175,8 @@ fn read_ends(
 
 /// The leaves at the front of a text, and what follows. The fault is `BadLine`, where there are none.
 fn front_pick(alloc: Global, text: &[u8]) -> Result<(Pick, &[u8]), Stop<ExpectKind>>
+    ensures front { IfOk result (λ found. pick_at_front text.now ≡ Some (found.0, found.1.now)) }
+    ensures none { IfErr result (IsBadLine (pick_at_front text.now ≡ None)) }
 {
     match pick_at_front(alloc, text)? {
         Some(found) => Ok(found),
@@ -174,6 +186,8 @@ fn front_pick(alloc: Global, text: &[u8]) -> Result<(Pick, &[u8]), Stop<ExpectKi
 
 /// The leaves that follow this word, after which nothing follows.
 fn last_pick(alloc: Global, between: &str, text: &[u8]) -> Result<Pick, Stop<ExpectKind>>
+    ensures last { IfOk result (λ pick. last_after between.now text.now ≡ Some pick) }
+    ensures none { IfErr result (IsBadLine (last_after between.now text.now ≡ None)) }
 {
     let (word, rest) = cut(text);
     if !is(word, between) {
@@ -194,6 +208,7 @@ fn read_never(
     pick: &Pick,
     text: &[u8],
 ) -> Result<Expectation, Stop<ExpectKind>>
+    ensures { GivesSaid result (FormSays (subject_seen subject.now) (then_pick (codes "with") NeverWithLine (pick.now, text.now))) }
 {
     let other = last_pick(alloc, "with", text)?;
     let first = leaves_in(alloc, subject.places.as_slice(), pick)?;
@@ -208,6 +223,7 @@ fn read_order(
     pick: &Pick,
     text: &[u8],
 ) -> Result<Expectation, Stop<ExpectKind>>
+    ensures { GivesSaid result (FormSays (subject_seen subject.now) (then_pick (codes "before") OrderLine (pick.now, text.now))) }
 {
     let other = last_pick(alloc, "before", text)?;
     let first = leaves_in(alloc, subject.places.as_slice(), pick)?;
@@ -222,6 +238,8 @@ fn read_leaves(
     kind: &[u8],
     text: &[u8],
 ) -> Result<Expectation, Stop<ExpectKind>>
+    requires { list_all is_line_byte text.now ≡ true }
+    ensures { GivesSaid result (FormSays (subject_seen subject.now) (leaves_line kind.now text.now)) }
 {
     let (pick, rest) = front_pick(alloc, text)?;
     if is(kind, "start") {
@@ -246,6 +264,8 @@ fn read_by_word(
     kind: &[u8],
     text: &[u8],
 ) -> Result<Expectation, Stop<ExpectKind>>
+    requires { list_all is_line_byte text.now ≡ true }
+    ensures { GivesSaid result (FormSays (subject_seen subject.now) (line_by kind.now text.now)) }
 {
     if is(kind, "always") {
         read_always(alloc, subject, text)

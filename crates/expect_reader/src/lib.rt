@@ -4,6 +4,7 @@
 
 mod answers;
 mod forms;
+pub mod laws;
 mod leaves;
 mod picks;
 mod places;

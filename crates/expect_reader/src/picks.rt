@@ -38,7 +38,8 @@ fn after_quote(alloc: Global, text: &[u8]) -> Result<Option<(Pick, &[u8])>, NoMe
     if str::from_utf8(bytes.as_slice()).is_err() || !is_apart(rest) {
         return Ok(None);
     }
-    Ok(Some((quoted_pick(Name::of(bytes)), after_gap(rest))))
+    let pick = quoted_pick(Name::of(bytes)?);
+    Ok(Some((pick, after_gap(rest))))
 }
 
 /// The leaves at the front of a text, by an ID or a quoted text, and what follows. None where there are none.

@@ -14,7 +14,7 @@ fn joined(alloc: Global, above: &Name, name: &[u8]) -> Result<Name, NoMemory>
 {
     let mut path = Vec::from_slice(alloc, above.list())?;
     path.extend_from_slice(name)?;
-    Ok(Name::of(path))
+    Name::of(path)
 }
 
 /// What the paths below a node begin with.
@@ -61,7 +61,7 @@ fn add_places(
 pub fn places_of(alloc: Global, tree: &Tree) -> Result<Vec<Place>, NoMemory>
     ensures { IfOk result (λ places. places.items ≡ places_of tree.now) }
 {
-    let above = Name::of(Vec::new(alloc));
+    let above = Name::empty();
     let mut places = Vec::new(alloc);
     add_places(alloc, &tree.term, &above, &mut places)?;
     Ok(places)

@@ -1,7 +1,8 @@
 ghost use Rattle.std.specs.Prelude.{◌≡◌, ◌≤◌, IfOk, length, map};
 ghost use Rattle.spec_expect.specs.ExpectFile.{AfterContent, AfterLines, LinesRead, ReadsExpected};
 ghost use Rattle.expect_watch.specs.Over.{AreOver};
-ghost use Rattle.expect_reader.specs.Reading.{GivesItems, Leaves, located, subject_seen};
+ghost use Rattle.world_draft.specs.Readings.{Leaves};
+ghost use Rattle.expect_reader.specs.Reading.{GivesItems, located, subject_seen};
 
 use crate::forms::read_content;
 use crate::subject::{Subject, subject_of};

@@ -15,6 +15,7 @@ use Rattle.spec_expect.specs.Stories.{opening_facts, sets_of}
 use Rattle.expect_watch.specs.declared.memo.Memo.{Memo}
 use Rattle.expect_watch.specs.declared.watching.Watched.{Watched}
 use Rattle.expect_watch.specs.Memos.{IsMemoOf, is_lost_now}
+use Rattle.expect_watch.specs.Over.{AreOver}
 use Rattle.expect_watch.specs.States.{State}
 use Rattle.expect_watch.specs.Valid.{IsFit}
 
@@ -54,6 +55,7 @@ pub record Wanted : Type 0 where
 
 -- what is kept of the run of a tree in a world before its first event
 pub record BegunOn (of : Setup) (expected : List Expected) (s : State) : Type 0 where
+  pub over : AreOver of.world.facts expected
   pub watched : AreBegun of.world.facts (opening_facts of.world) expected s.watched
   pub facts : s.facts ≡ opening_facts of.world
   pub effects : s.effects ≡ [] ∷ sets_in of.world.rows of.tree.term

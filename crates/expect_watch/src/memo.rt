@@ -1,4 +1,4 @@
-ghost use Rattle.std.specs.Prelude.{◌≡◌, [], IfOk, length};
+ghost use Rattle.std.specs.Prelude.{◌≡◌, ◌≤◌, IfOk, length};
 ghost use Rattle.std.specs.Ordering.{nat_cmp};
 ghost use Rattle.spec_script.specs.Operators as operators;
 ghost use Rattle.spec_expect.specs.Met as met;
@@ -100,6 +100,7 @@ pub fn memo_of(
 ) -> Result<Memo, NoMemory>
     requires over { IsOver names.now expectation }
     requires facts { length facts.now ≡ length names.now }
+    requires few { length names.now ≤ 1024 }
     ensures memo { IfOk result (IsMemoOf names.now facts.now expectation) }
     ensures fits { IfOk result (Fits (length facts.now)) }
 {

@@ -22,9 +22,11 @@ pub fn is_so(expr: &ReadyExpr, facts: &FactTable) -> bool
 }
 
 /// The row of a condition that is true where the expression is.
-fn condition_of(alloc: Global, expr: Expr) -> Row {
+fn condition_of(alloc: Global, expr: Expr) -> Row
+    ensures { result ≡ record { id = []; ports = []; sort = RowSort.When expr; needs = []; sets = []; outs = [] } }
+{
     Row {
-        id: Name::of(Vec::new(alloc)),
+        id: Name::empty(),
         ports: Items::of(Vec::new(alloc)),
         sort: RowSort::When(expr),
         needs: Items::of(Vec::new(alloc)),
@@ -35,7 +37,8 @@ fn condition_of(alloc: Global, expr: Expr) -> Row {
 
 /// An expression over facts, made ready as that of a condition is. The error is want of memory.
 pub fn test_of(alloc: Global, expr: Expr, facts: &[Fact]) -> Result<ReadyExpr, NoMemory>
-    requires { IsExprOver [] (names_of_facts facts.now) expr }
+    requires over { IsExprOver [] (names_of_facts facts.now) expr }
+    requires few { length facts.now ≤ 1024 }
     ensures test { IfOk result (λ ready. is_ready_so ready ≡ met.is_so facts.now expr) }
     ensures reach { IfOk result (λ ready. expr_reach ready ≤ 8 + length facts.now) }
 {

@@ -1,4 +1,4 @@
-ghost use Rattle.std.specs.Prelude.{◌≡◌, ◌++◌, ◌∷◌, [], IfOk, None, OnOk, Some, length, map};
+ghost use Rattle.std.specs.Prelude.{◌≡◌, ◌≤◌, ◌++◌, ◌∷◌, [], IfOk, None, OnOk, Some, length, map};
 ghost use Rattle.std.specs.Option.{option_copied};
 ghost use Rattle.spec_tree.specs.Trees.{nodes_of};
 ghost use Rattle.spec_world.specs.Worlds.{IsValidWorld};
@@ -103,6 +103,7 @@ fn watched_of(
 ) -> Result<Watched, NoMemory>
     requires over { IsOver names.now expected.expectation }
     requires facts { length facts.now ≡ length names.now }
+    requires few { length names.now ≤ 1024 }
     ensures begun { IfOk result (IsBegun names.now facts.now expected) }
     ensures fits { IfOk result (λ watched. Fits (length facts.now) watched.memo) }
 {

@@ -318,7 +318,7 @@ join_stopped tree world course stop.NoMemory a b same lacks =
     at_any a.clock (λ moments. Ends (JoinGives tree world course moments a.drivers) AreUncalled (Err refusal.NoMemory) a b) (λ moments. (tt, same))
 
 -- what is given says of the drivers before only how often they were called
-gave_from : (bytes : List ℕ) (end : Exit) (left : List DriverState) (asked : Asked) (result : Exit) (a b : Side) (drivers : List DriverState) → AreUncalled drivers a.drivers →
+pub gave_from : (bytes : List ℕ) (end : Exit) (left : List DriverState) (asked : Asked) (result : Exit) (a b : Side) (drivers : List DriverState) → AreUncalled drivers a.drivers →
     Gave (record { bytes = bytes; exit = end; drivers = Some left; asked = asked }) result a b →
     Gave (record { bytes = bytes; exit = end; drivers = Some left; asked = asked }) result (side a.written a.faults a.clock drivers) b
 gave_from bytes end left asked exit.Done a b drivers same x = x
@@ -332,6 +332,8 @@ gave_from bytes end left asked exit.Write a b drivers same x = (x.0, record { wr
 gave_from bytes end left asked exit.Rules a b drivers same x = x
 gave_from bytes end left asked exit.Request a b drivers same x = x
 gave_from bytes end left asked exit.NotExclusive a b drivers same x = x
+gave_from bytes end left asked exit.Expect a b drivers same x = x
+gave_from bytes end left asked exit.Unmet a b drivers same x = x
 gave_from bytes end left asked exit.Memory a b drivers same x = record { written = x.written; drivers = uncalled_before drivers a.drivers b.drivers left same x.drivers; clock = x.clock }
 
 -- runs that were made for these drivers, which were then prepared

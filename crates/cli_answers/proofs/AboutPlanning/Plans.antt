@@ -82,6 +82,8 @@ gave_spoken o exit.Memory a b spoken p = absurd spoken
 gave_spoken o exit.Rules a b spoken p = p
 gave_spoken o exit.Request a b spoken p = p
 gave_spoken o exit.NotExclusive a b spoken p = p
+gave_spoken o exit.Expect a b spoken p = p
+gave_spoken o exit.Unmet a b spoken p = p
 
 end_spoken : (end : End) → IsSpoken (plan_exit end)
 end_spoken (Reached tree tick) = tt

@@ -1,4 +1,4 @@
-ghost use Rattle.std.specs.Prelude.{◌≡◌, find};
+ghost use Rattle.std.specs.Prelude.{◌≡◌, IfSome, IsTrue, find};
 ghost use Rattle.spec_expect.specs.Told.{is_fault};
 ghost use Rattle.expect_watch.specs.States as states;
 ghost use Rattle.expect_watch.specs.Valid.{IsFit};
@@ -17,6 +17,7 @@ pub struct Expecter {
     /// The note of the first fault.
     pub fault: Option<Note>,
     pub ghost fit: { IsFit (states.seen watching) },
+    pub ghost faulted: { IfSome fault (λ note. IsTrue (is_fault note)) },
 }
 
 /// Whether it is the note of a fault.
@@ -31,7 +32,8 @@ fn is_fault(note: Note) -> bool
 
 /// The note of the first fault among these, if one is.
 fn fault_in(notes: &[Note]) -> Option<Note>
-    ensures { result ≡ find is_fault notes.now }
+    ensures first { result ≡ find is_fault notes.now }
+    ensures fault { IfSome result (λ note. IsTrue (is_fault note)) }
 {
     notes.iter().copied().find(|note| is_fault(*note))
 }

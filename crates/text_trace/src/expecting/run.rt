@@ -1,11 +1,12 @@
-ghost use Rattle.std.specs.Prelude.{◌≡◌, ◌++◌, IfOk, OnErr, OnOk};
+ghost use Rattle.std.specs.Prelude.{◌≡◌, ◌++◌, IfOk, IfSome, IsTrue, OnErr, OnOk};
 ghost use Rattle.std.specs.List.{count_by, flat_map};
+ghost use Rattle.spec_expect.specs.Told.{is_fault, line_of_note};
 ghost use Rattle.spec_expect.specs.Verdicts.{verdict_line};
 ghost use Rattle.spec_output.specs.Lines.{line_names};
 ghost use Rattle.expect_watch.specs.Begun.{BegunOn, Wanted};
 ghost use Rattle.expect_watch.specs.States as states;
 ghost use Rattle.run_loop.specs.Runs.{arenas_of};
-ghost use Rattle.text_trace.specs.Expected.{IsExpected};
+ghost use Rattle.text_trace.specs.Expected.{IsExpected, came_out, failed_in, following, lines_by, met_or_not};
 ghost use Rattle.text_trace.specs.Halted.{IsCut};
 ghost use Rattle.text_trace.specs.Traces.{AreKept, CanAllCome, CanRun, trace_of};
 
@@ -18,6 +19,7 @@ use expect_watch::{Watched, Watching};
 use run_driver::Drivers;
 use run_loop::Runs;
 use spec_expect::Verdict;
+use spec_run::Note;
 use spec_world::Event;
 use std::alloc::Global;
 use text_lines::{Names, put_long};
@@ -50,28 +52,49 @@ fn put_verdicts(out: &mut Vec<u8>, watched: &[Watched], last: u64) -> Result<u64
     Ok(failed)
 }
 
-/// Puts the lines of what a run was expected to do that ended so, and how that came out.
+/// Puts the line of a fault, where there is one.
+fn put_fault(out: &mut Vec<u8>, fault: Option<Note>, names: &Names) -> Result<(), NoMemory>
+    requires { IfSome fault (λ note. IsTrue (is_fault note)) }
+    ensures { OnOk result (out.new.items ≡ out.old.items ++ line_of_note names.now fault) }
+{
+    match fault {
+        Some(note) => put_long(out, note, names),
+        None => Ok(()),
+    }
+}
+
+/// How a run came out that ended without a fault and does not meet so many expectations.
+fn come_out(failed: u64) -> Expecting
+    ensures { result ≡ met_or_not failed }
+{
+    if failed == 0 {
+        Expecting::Met
+    } else {
+        Expecting::Unmet
+    }
+}
+
+/// Puts the lines of what a run was expected to do that ended so, and tells how that came out.
 fn put_lines(
     out: &mut Vec<u8>,
     expecter: &Expecter,
     ended: Ended,
     names: &Names,
-) -> Result<Expecting, NoMemory> {
+) -> Result<Expecting, NoMemory>
+    ensures lines { OnOk result (out.new.items ≡ out.old.items ++ lines_by ended names.now (following expecter.now)) }
+    ensures out { IfOk result (λ came. came ≡ came_out ended (failed_in (following expecter.now).state)) }
+{
     let watching = &expecter.watching;
     let failed = put_verdicts(out, watching.watched.as_slice(), watching.last)?;
-    if let Some(fault) = expecter.fault {
-        put_long(out, fault, names)?;
-    }
     match ended {
-        Ended::Faulted => Ok(Expecting::Faulted),
+        Ended::Faulted => {
+            put_fault(out, expecter.fault, names)?;
+            Ok(Expecting::Faulted)
+        }
         Ended::Done => {
             let passed = (watching.watched.len() as u64).saturating_sub(failed);
             put_sum(out, passed, failed)?;
-            Ok(if failed == 0 {
-                Expecting::Met
-            } else {
-                Expecting::Unmet
-            })
+            Ok(come_out(failed))
         }
     }
 }

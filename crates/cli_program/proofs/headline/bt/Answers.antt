@@ -6,10 +6,10 @@ pub returns-clause-whole : goal.returns-clause-whole
 returns-clause-whole g c = rw (← c.replace.ensures.value) (whole_of _ _ _ _ _ _ _ (any_bytes g.S.Shelf.read_gives (g.S.Shelf.holds c.args.shelf.now) _ _ _ _ _ _ _ c.run_words-exit.ensures.reads))
 
 pub returns-clause-each : goal.returns-clause-each
-returns-clause-each g c = rw (← c.replace.ensures.value) (each_of _ _ _ _ _ _ (record { element = c.one_element.ensures; fault = c.element_or_fault.ensures.once; not_both = c.element_or_fault.ensures.not_both; world = c.worlds_read_one_way.ensures; plan = c.plans_run_one_way.ensures }) c.plan_cuts_begin_within.ensures _ (any_bytes g.S.Shelf.read_gives (g.S.Shelf.holds c.args.shelf.now) _ _ _ _ _ _ _ c.run_words-exit.ensures.reads))
+returns-clause-each g c = rw (← c.replace.ensures.value) (each_of _ _ _ _ _ _ (record { element = c.one_element.ensures; fault = c.element_or_fault.ensures.once; not_both = c.element_or_fault.ensures.not_both; world = c.worlds_read_one_way.ensures; expect = c.expectations_read_one_way.ensures; plan = c.plans_run_one_way.ensures }) c.plan_cuts_begin_within.ensures _ (any_bytes g.S.Shelf.read_gives (g.S.Shelf.holds c.args.shelf.now) _ _ _ _ _ _ _ c.run_words-exit.ensures.reads))
 
 pub returns-clause-begun : goal.returns-clause-begun
-returns-clause-begun g c = rw (← c.replace.ensures.value) (begun_of _ _ _ _ _ _ (record { element = c.one_element.ensures; fault = c.element_or_fault.ensures.once; not_both = c.element_or_fault.ensures.not_both; world = c.worlds_read_one_way.ensures; plan = c.plans_run_one_way.ensures }) c.plan_cuts_begin_within.ensures _ (any_bytes g.S.Shelf.read_gives (g.S.Shelf.holds c.args.shelf.now) _ _ _ _ _ _ _ c.run_words-exit.ensures.reads))
+returns-clause-begun g c = rw (← c.replace.ensures.value) (begun_of _ _ _ _ _ _ (record { element = c.one_element.ensures; fault = c.element_or_fault.ensures.once; not_both = c.element_or_fault.ensures.not_both; world = c.worlds_read_one_way.ensures; expect = c.expectations_read_one_way.ensures; plan = c.plans_run_one_way.ensures }) c.plan_cuts_begin_within.ensures _ (any_bytes g.S.Shelf.read_gives (g.S.Shelf.holds c.args.shelf.now) _ _ _ _ _ _ _ c.run_words-exit.ensures.reads))
 
 pub returns-clause-reads : goal.returns-clause-reads
 returns-clause-reads g c = rw (← c.replace.ensures.value) c.run_words-exit.ensures.reads

@@ -21,3 +21,6 @@ returns-in-Ok-rules_refusal-clause-refused g c = rw c.in-Rules.is (rw (c.as_slic
 
 pub returns-in-Ok-ground_refusal-clause-refused : goal.returns-in-Ok-ground_refusal-clause-refused
 returns-in-Ok-ground_refusal-clause-refused g c = rw c.in-Ground.is (rw (c.as_slice-in-Ok-ground_refusal.ensures.value ∙ c.in-Ok-ground_refusal.ensures) at c.write_last-in-Ok-ground_refusal.ensures.printed)
+
+pub returns-in-Ok-expect_refusal-clause-refused : goal.returns-in-Ok-expect_refusal-clause-refused
+returns-in-Ok-expect_refusal-clause-refused g c = rw c.in-Expect.is (rw (c.as_slice-in-Ok-expect_refusal.ensures.value ∙ c.in-Ok-expect_refusal.ensures) at c.write_last-in-Ok-expect_refusal.ensures.printed)

@@ -8,3 +8,6 @@ returns-in-World-clause-printed g c = rw c.in-World.is c.write_last-in-World.ens
 
 pub returns-in-Rules-clause-printed : goal.returns-in-Rules-clause-printed
 returns-in-Rules-clause-printed g c = rw c.in-Rules.is c.write_last-in-Rules.ensures.printed
+
+pub returns-in-Expect-clause-printed : goal.returns-in-Expect-clause-printed
+returns-in-Expect-clause-printed g c = rw c.in-Expect.is c.write_last-in-Expect.ensures.printed

@@ -1,0 +1,17 @@
+use Rattle.std.proofs.lemmas.Result.{err_from_is_err_and}
+use Rattle.std.specs.Option.{option_copied}
+use Rattle.cli_commands.proofs.Files.{both_expected, expect_tree_stopped, expect_world_stopped}
+use Rattle.cli_commands.proofs.command.expect_files.Goals as goal
+
+pub returns-in_err-tree-clause-ends : goal.returns-in_err-tree-clause-ends
+returns-in_err-tree-clause-ends g c =
+    let p = err_from_is_err_and c.from_residual.result c.from_residual.ensures.1 in
+    rw (p.1, p.2) (expect_tree_stopped (option_copied c.args.main) c.args.tree.now c.args.world.now c.args.expect.now c.requires.tree c.requires.world c.requires.expect c.in_err-tree.field-0.0 _ c.in_err-tree.ensures.reads)
+
+pub returns-in-Ok-clause-ends : goal.returns-in-Ok-clause-ends
+returns-in-Ok-clause-ends g c =
+    both_expected (option_copied c.args.main) c.args.tree.now c.args.world.now c.args.expect.now c.requires.tree c.requires.world c.requires.expect _ _ _ _ _ c.in_ok-tree.ensures.reads c.in-Ok.ensures.reads c.join_and_expect-ended.ensures.ends
+
+pub returns-in-Err-clause-ends : goal.returns-in-Err-clause-ends
+returns-in-Err-clause-ends g c =
+    rw c.from.ensures (expect_world_stopped (option_copied c.args.main) c.args.tree.now c.args.world.now c.args.expect.now c.requires.tree c.requires.world c.requires.expect _ c.in-Err.stopped _ c.in_ok-tree.ensures.reads c.in-Err.ensures.reads)
