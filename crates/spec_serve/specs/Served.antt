@@ -95,7 +95,7 @@ IsHeard ahead Failed exit heard = Hears ahead (Failed ⊎ IsCutOff exit) heard
 
 -- the files of what is served
 abbrev pub files_of : Served → Named
-files_of served = record { tree = Some served.tree; world = served.world; rules = None }
+files_of served = record { tree = Some served.tree; world = served.world; rules = None; expect = None }
 
 -- the bytes of the world file, where one is named
 abbrev pub world_in : Option (List ℕ) → Contents → Option (List ℕ)
