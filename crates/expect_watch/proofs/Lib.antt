@@ -3,6 +3,7 @@ mod ByNotes
 mod Follows
 mod Forms
 pub mod Sights
+mod Tests
 pub mod Told
 mod Until
 mod Verdicts
