@@ -1,3 +1,4 @@
+mod Beginning
 mod ByEvents
 mod ByNotes
 mod Follows
