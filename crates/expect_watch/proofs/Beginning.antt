@@ -1,6 +1,5 @@
 -- One expectation more that is watched.
 use Rattle.std.proofs.Common.{ℕ, ℤ, List, [], ◌∷◌, ◌++◌}
-use Rattle.std.specs.List.{All}
 use Rattle.std.proofs.lemmas.List.Elements.{All-append, All-cons, All-nil}
 use Rattle.spec_world.specs.declared.world.Fact.{Fact}
 use Rattle.spec_expect.specs.declared.expectation.Expected.{Expected}

@@ -1,5 +1,5 @@
 -- What is taken block by block is what happens in the events that the blocks tell.
-use Rattle.std.proofs.Common.{◌≡◌, ℕ, ℤ, zero, suc, List, [], ◌∷◌, ◌++◌, map, Option, Some, None, refl, sym, ap, subst, ◌∙◌}
+use Rattle.std.proofs.Common.{◌≡◌, ℕ, ℤ, zero, suc, List, [], ◌∷◌, ◌++◌, map, refl, sym, ap, subst, ◌∙◌}
 use Rattle.std.specs.Prelude.{option_and_then, slice_get, slice_index_or}
 use Rattle.std.specs.List.{flat_map}
 use Rattle.std.proofs.lemmas.List.{map-append}
@@ -8,10 +8,10 @@ use Rattle.spec_run.specs.declared.block.Block.{Block}
 use Rattle.spec_run.specs.declared.note.Note.{Note}
 use Rattle.spec_run.specs.declared.note.Note.TheVariants.{Started, Ran}
 use Rattle.spec_run.specs.declared.status.Answer.TheVariants.{Success}
-use Rattle.spec_run.specs.Joins.{row_at, row_of_node}
+use Rattle.spec_run.specs.Joins.{row_of_node}
 use Rattle.spec_run.specs.Leaf.{effects_of}
 use Rattle.spec_run.specs.Served.{Setup}
-use Rattle.spec_tree.specs.declared.term.Term.{Term, Term-F, fold-roll-Term, fold_out-Term, ind-Term, out-Term, roll-Term}
+use Rattle.spec_tree.specs.declared.term.Term.{Term, Term-F, fold-roll-Term, fold_out-Term, ind-Term, out-Term}
 use Rattle.spec_tree.specs.Trees.{Node, nodes_of, nodes_step}
 use Rattle.spec_world.specs.declared.world.Row.{Row}
 use Rattle.spec_world.specs.declared.world.Set.{Set}

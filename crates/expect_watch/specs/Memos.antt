@@ -1,5 +1,5 @@
 -- What is kept for one expectation, note by note and event by event, and when it is lost.
-use Rattle.std.specs.Prelude.{ℕ, ℤ, ◌+◌, ◌-◌, ◌^◌, ◌≡◌, ◌≤◌, min, List, length, nat_eq, nat_le, nat_lt, Bool, true, false, not, ◌&&◌, ◌||◌, if◌then◌else◌}
+use Rattle.std.specs.Prelude.{ℕ, ℤ, ◌+◌, ◌-◌, ◌^◌, ◌≡◌, ◌≤◌, min, List, nat_le, nat_lt, Bool, true, false, not, ◌&&◌, ◌||◌, if◌then◌else◌}
 use Rattle.std.specs.Ordering.{nat_cmp}
 use Rattle.spec_script.specs.Operators.{compares}
 use Rattle.spec_run.specs.declared.note.Note.{Note}

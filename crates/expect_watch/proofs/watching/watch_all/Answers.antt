@@ -1,12 +1,10 @@
-use Rattle.std.proofs.Common.{◌≡◌, ◌∙◌, ◌+◌, ℕ, List, [], ◌∷◌, ◌++◌, ap, arith, length, subst, sym, take}
+use Rattle.std.proofs.Common.{◌≡◌, ◌∙◌, ℕ, List, [], ◌∷◌, ◌++◌, ap, arith, length, subst, sym, take}
 use Rattle.std.proofs.lemmas.Iterator.Adapters.{YieldsList-from_vec}
 use Rattle.std.proofs.lemmas.Iterator.Consumers.{YieldsList-turn}
 use Rattle.std.proofs.lemmas.List.{length_push, take_more}
-use Rattle.std.specs.Vec.Iter.{into_iter_items, into_iter_len}
+use Rattle.std.specs.Vec.Iter.{into_iter_len}
 use Rattle.spec_expect.specs.declared.expectation.Expected.{Expected}
-use Rattle.expect_watch.specs.declared.watching.Watched.{Watched}
 use Rattle.expect_watch.specs.Begun.{AreBegun}
-use Rattle.expect_watch.specs.Memos.{Fits}
 use Rattle.expect_watch.specs.Valid.{AreFit}
 use Rattle.expect_watch.proofs.Beginning.{begun_more, fit_more}
 use Rattle.expect_watch.proofs.watching.watch_all.Goals as goal
