@@ -28,7 +28,9 @@ use crate::mocking::{mock_tree, mock_tree_apart};
 use crate::reading::{FilesRead, read_files};
 use base_outside::{Clock, Shelf, Sink};
 use base_texts::Name;
-use cli_answers::{join_and_run, plan_and_print, print_exclusive, print_ground, print_made, print_tree};
+use cli_answers::{
+    join_and_run, plan_and_print, print_exclusive, print_ground, print_made, print_tree,
+};
 use cli_refusals::{Outside, Refusal, write_refusal};
 use cli_words::{Command, read_command};
 use run_driver::Drivers;
