@@ -31,6 +31,7 @@ use base_outside::{Clock, Shelf, Sink};
 use base_texts::Name;
 use cli_answers::{
     join_and_expect, join_and_run, plan_and_print, print_exclusive, print_ground, print_made, print_tree,
+    join_and_run, plan_and_print, print_exclusive, print_ground, print_made, print_tree,
 };
 use cli_refusals::{Outside, Refusal, write_refusal};
 use cli_words::{Command, read_command};
