@@ -16,7 +16,7 @@ use Rattle.spec_program.specs.Answers.{Answers, Gave, RanOut, Side}
 use Rattle.spec_program.specs.Output.{AreUncalled}
 use Rattle.spec_program.specs.Answered.{AnsweredAfter, AreTold, WordsAnswered}
 use Rattle.cli_commands.specs.Answering.{CommandAnswered, FilesAnswered}
-use Rattle.spec_program.specs.Files.{Contents, Named, tree_alone, tree_and_rules, tree_and_world, tree_world_rules, world_alone, tree_world_expect}
+use Rattle.spec_program.specs.Files.{Contents, Named, tree_alone, tree_and_rules, tree_and_world, tree_world_expect, tree_world_rules, world_alone}
 use Rattle.spec_program.specs.Exclusives.{Exclusives}
 use Rattle.spec_program.specs.Expecting.{Expects}
 use Rattle.spec_program.specs.Gives.{Beginning, BeginsNothing, Giving, Mocks, Prints, PrintsMade, RunsOn}
@@ -24,7 +24,7 @@ use Rattle.spec_program.specs.Grounds.{GroundBegins, GroundPlans, Grounds}
 use Rattle.spec_program.specs.Jobs.{FilesBegin, FilesGive, files_of}
 use Rattle.spec_program.specs.Plans.{Begins, Plans}
 use Rattle.spec_program.specs.Reads.{AllRead, AreRead, IsLong, NamedFile, Reading, ReadsEnd, StoppedAt, WordsUnread, in_order}
-use Rattle.cli_commands.proofs.Files.{LongAlone, LongLast, LongRules, LongTree, LongWorld, alone, holding, long_exclusive, long_made, long_made_rules, long_mock, long_mock_world, long_print, long_rules, long_run, long_world, no_bytes, uncalled_begin, LongExpect, long_expected, long_expects, long_expects_world}
+use Rattle.cli_commands.proofs.Files.{LongAlone, LongExpect, LongLast, LongRules, LongTree, LongWorld, alone, holding, long_exclusive, long_expected, long_expects, long_expects_world, long_made, long_made_rules, long_mock, long_mock_world, long_print, long_rules, long_run, long_world, no_bytes, uncalled_begin}
 use Rattle.cli_commands.proofs.Grounds.{long_ground, long_ground_plan}
 use Rattle.cli_commands.proofs.Plans.{long_plan}
 use Rattle.cli_refusals.proofs.AboutLent.Moments.{at_any}

@@ -32,6 +32,8 @@ use base_texts::Name;
 use cli_answers::{
     join_and_expect, join_and_run, plan_and_print, print_exclusive, print_ground, print_made, print_tree,
     join_and_run, plan_and_print, print_exclusive, print_ground, print_made, print_tree,
+    join_and_expect, join_and_run, plan_and_print, print_exclusive, print_ground, print_made,
+    print_tree,
 };
 use cli_refusals::{Outside, Refusal, write_refusal};
 use cli_words::{Command, read_command};
@@ -217,6 +219,7 @@ fn ground_file<S: Shelf, K: Sink, C: Clock, D: Drivers>(
 
 /// Runs the tree of these bytes of a tree file in the world of these bytes of a world script, and tells of each expectation of
 /// these bytes of a file of expectations whether the run meets it.
+#[tactic(auto, using(base_tables::proofs::Runnable::runnable))]
 fn expect_files<S: Shelf, K: Sink, C: Clock, D: Drivers>(
     alloc: Global,
     tree: &[u8],

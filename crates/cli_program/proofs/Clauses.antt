@@ -460,10 +460,11 @@ exit_of_mock main tree world rules g o p =
 
 exit_of_count : (fault : Option RunFault) (failed : ℕ) → IsOfFiles (expect_exit fault failed)
 exit_of_count (Some fault) failed = tt
-exit_of_count None failed = by_test (nat_eq failed 0) where
-  by_test : (b : Bool) → IsOfFiles (if b then exit.Done else exit.Unmet)
-  by_test true = tt
-  by_test false = tt
+exit_of_count None failed = by (nat_eq failed 0)
+  where
+    by : (b : Bool) → IsOfFiles (if b then exit.Done else exit.Unmet)
+    by true = tt
+    by false = tt
 
 exit_of_expected : (read : Result (List Expected) ExpectFault) (of : Setup) (drivers : List DriverState) → IsOfFiles (expect_output read of drivers).exit
 exit_of_expected (Ok expected) of drivers = exit_of_count (run of.tree of.world).fault (failed of (run of.tree of.world).blocks expected)

@@ -35,10 +35,10 @@ pub fn bt<S: Shelf, K: Sink, C: Clock>(
 ) -> Exit
     requires quiet { NothingHeld (map (λ b. state b) roster.old.items) }
 
-    // At Done, Words, Tree, World, Fault, NoPlan and Rules the whole output of the definition was
-    // written, this is its exit, and the drivers are those after its run; where no tree was run, none
-    // was called. The clock was asked once a round by a run by the clock that is done, and by no other
-    // command.
+    // At Done, Words, Tree, World, Fault, NoPlan, Rules, Expect, Unmet and NotExclusive the whole
+    // output of the definition was written, this is its exit, and the drivers are those after its run;
+    // where no tree was run, none was called. The clock was asked once a round by a run by the clock
+    // that is done, and by no other command.
     ensures whole { IsGiven result → WholeOutput (S.holds shelf.old) (command_of words.now) result
         (side (K.written out.old) (K.faults out.old) (C.moments clock.old) (map (λ b. state b) roster.old.items))
         (side (K.written out.new) (K.faults out.new) (C.moments clock.new) (map (λ b. state b) roster.new.items)) }

@@ -13,7 +13,7 @@ use Rattle.spec_program.specs.declared.file.File.{File}
 use Rattle.spec_program.specs.declared.file.File.TheVariants as file
 use Rattle.spec_program.specs.Answered.{AreWithin}
 use Rattle.spec_program.specs.Output.{Output, line_of, refused}
-use Rattle.spec_program.specs.Refusals.{ground_words, join_words, rules_words, tree_words, world_words}
+use Rattle.spec_program.specs.Refusals.{expect_words, ground_words, join_words, rules_words, tree_words, world_words}
 use Rattle.spec_program.specs.Reads.{AllRead, AreRead, Reading, StoppedAt, in_order}
 use Rattle.spec_program.specs.Words.{Served}
 use Rattle.spec_serve.specs.Served.{FilesSaid, IsHeard, IsServed, files_of, output_of, refusal as refusal_said, world_in}
@@ -46,14 +46,17 @@ refusal_line refusal.Words o is = one_line (codes "refused words") exit.Words o 
 refusal_line (refusal.Unread file.Tree) o is = one_line (codes "refused read tree") exit.Read o is
 refusal_line (refusal.Unread file.World) o is = one_line (codes "refused read world") exit.Read o is
 refusal_line (refusal.Unread file.Rules) o is = one_line (codes "refused read rules") exit.Read o is
+refusal_line (refusal.Unread file.Expect) o is = one_line (codes "refused read expect") exit.Read o is
 refusal_line (refusal.TooLong file.Tree) o is = one_line (codes "refused tree TooLong") exit.Tree o is
 refusal_line (refusal.TooLong file.World) o is = one_line (codes "refused world TooLong") exit.World o is
 refusal_line (refusal.TooLong file.Rules) o is = one_line (codes "refused rules TooLong") exit.Rules o is
+refusal_line (refusal.TooLong file.Expect) o is = one_line (codes "refused expect TooLong 0") exit.Expect o is
 refusal_line (refusal.Tree f) o is = one_line (codes "refused tree " ++ tree_words f) exit.Tree o is
 refusal_line (refusal.World f) o is = one_line (codes "refused world " ++ world_words f) exit.World o is
 refusal_line (refusal.Join f) o is = one_line (codes "refused world " ++ join_words f) exit.World o is
 refusal_line refusal.NoGoal o is = one_line (codes "refused world NoGoal") exit.World o is
 refusal_line (refusal.Rules f) o is = one_line (codes "refused rules " ++ rules_words f) exit.Rules o is
+refusal_line (refusal.Expect f) o is = one_line (codes "refused expect " ++ expect_words f) exit.Expect o is
 refusal_line (refusal.Ground f) o is = one_line (codes "refused ground " ++ ground_words f) exit.World o is
 refusal_line refusal.NoMemory o is = absurd (cc)
 

@@ -49,6 +49,7 @@ told_refused (refusal.TooLong which) file tree told = told
 told_refused (refusal.Join f) file tree told = told
 told_refused refusal.NoGoal file tree told = told
 told_refused (refusal.Rules f) file tree told = told
+told_refused (refusal.Expect f) file tree told = told
 told_refused (refusal.Ground f) file tree told = told
 
 -- one that is made
@@ -90,6 +91,7 @@ module _ (main : Option (List ℕ)) (file : List ℕ) (world : Option (List ℕ)
   world_refuses tree (refusal.Join f) reads given o is = absurd given
   world_refuses tree refusal.NoGoal reads given o is = absurd given
   world_refuses tree (refusal.Rules f) reads given o is = absurd given
+  world_refuses tree (refusal.Expect f) reads given o is = absurd given
   world_refuses tree (refusal.Ground f) reads given o is = absurd given
 
   module _ (tree : Tree) (read : World × Reading) (reads : TreeReads main file (Ok tree)) (given : WorldFor world file tree (Ok read)) where
@@ -135,4 +137,5 @@ module _ (main : Option (List ℕ)) (files : Files) where
     begun w left given (Err (refusal.World f)) begins = absurd begins
     begun w left given (Err refusal.NoGoal) begins = absurd begins
     begun w left given (Err (refusal.Rules f)) begins = absurd begins
+    begun w left given (Err (refusal.Expect f)) begins = absurd begins
     begun w left given (Err (refusal.Ground f)) begins = absurd begins

@@ -28,7 +28,7 @@ world_bytes world = unwrap_or (option_map (λ bytes. bytes.items) world) []
 
 -- the bytes of the files
 abbrev pub contents_of : Files → Contents
-contents_of files = record { tree = files.tree.items; world = world_bytes files.world; rules = [] }
+contents_of files = record { tree = files.tree.items; world = world_bytes files.world; rules = []; expect = [] }
 
 -- this is answered for the world in which a tree is served, and for what lines are read after; where these bytes of a
 -- world file were read, and those of the tree file

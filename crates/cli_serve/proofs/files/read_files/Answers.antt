@@ -39,10 +39,12 @@ returns-clause-within g c =
         tree = told_of g.S.Shelf.read_gives g.S.Shelf.faults (g.S.Shelf.holds c.args.shelf.now) (Some c.args.serve.tree.now) c.in_ok-tree.tree.items c.args.shelf.now c.read_named.new.shelf tree;
         world = told_of g.S.Shelf.read_gives g.S.Shelf.faults (g.S.Shelf.holds c.args.shelf.now) (option_copied c.args.serve.world) (world_bytes c.in_ok-world.world) c.read_named.new.shelf c.read_world.new.shelf world;
         rules = tt;
+        expect = tt;
       };
       short = record {
         tree = short_of g.S.Shelf.read_gives g.S.Shelf.faults (g.S.Shelf.holds c.args.shelf.now) (Some c.args.serve.tree.now) c.in_ok-tree.tree.items c.args.shelf.now c.read_named.new.shelf tree;
         world = short_of g.S.Shelf.read_gives g.S.Shelf.faults (g.S.Shelf.holds c.args.shelf.now) (option_copied c.args.serve.world) (world_bytes c.in_ok-world.world) c.read_named.new.shelf c.read_world.new.shelf world;
         rules = no_bytes;
+        expect = no_bytes;
       };
     }
