@@ -30,8 +30,6 @@ use crate::reading::{FilesRead, read_files};
 use base_outside::{Clock, Shelf, Sink};
 use base_texts::Name;
 use cli_answers::{
-    join_and_expect, join_and_run, plan_and_print, print_exclusive, print_ground, print_made, print_tree,
-    join_and_run, plan_and_print, print_exclusive, print_ground, print_made, print_tree,
     join_and_expect, join_and_run, plan_and_print, print_exclusive, print_ground, print_made,
     print_tree,
 };
