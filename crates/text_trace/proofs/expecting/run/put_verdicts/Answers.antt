@@ -19,13 +19,13 @@ loop-one-preserved c =
     let within : i < length ws = omega arith in
     let rest = flat_map text (drop (i + 1) ws) in
     let next : drop i ws ≡ w ∷ drop (i + 1) ws = drop_more ws i w within ∙ ap (λ (x : Watched). x ∷ drop (i + 1) ws) (sym c.one-item.is) in
-    let one : c.with_failed.result ≡ c.loop-one.failed + fails w = c.with_failed.ensures ∙ ap (λ (v : Verdict). c.loop-one.failed + cond (is_failed v) 1 0) c.verdict.ensures in
+    let one : c.with_failed-failed.result ≡ c.loop-one.failed + fails w = c.with_failed-failed.ensures ∙ ap (λ (v : Verdict). c.loop-one.failed + cond (is_failed v) 1 0) c.verdict-verdict.ensures in
     let few = one_at_most (is_failed (verdict_of w c.args.last)) in
     let same = ap fails c.one-item.is in
     record {
       lines =
           ap (λ (xs : List ℕ). xs ++ rest) c.in_ok-put_verdict.ensures ∙ append_assoc c.loop-one.out.items _ rest
-          ∙ ap (λ (v : Verdict). c.loop-one.out.items ++ (verdict_line w.line v ++ rest)) c.verdict.ensures
+          ∙ ap (λ (v : Verdict). c.loop-one.out.items ++ (verdict_line w.line v ++ rest)) c.verdict-verdict.ensures
           ∙ ap (λ (xs : List Watched). c.loop-one.out.items ++ flat_map text xs) (sym next) ∙ c.loop-one.invariant.lines;
       failed = omega (arith, one, same, sum_by-drop_more fails ws i w within, c.loop-one.invariant.failed);
       few = omega (arith, one, few, c.loop-one.invariant.few);

@@ -6,7 +6,7 @@ use Rattle.expect_watch.specs.States as states
 use Rattle.run_loop.specs.Runs.{arenas_of}
 use Rattle.spec_output.specs.Rounds.{nothing_more}
 use Rattle.text_trace.specs.declared.ended.Ended.{Ended}
-use Rattle.text_trace.specs.Expected.{came_out, failed_in, lines_by}
+use Rattle.text_trace.specs.Expected.{came_out, failed_in, following, lines_by}
 use Rattle.text_trace.specs.Following.{Following, all_followed}
 use Rattle.text_trace.specs.Traces.{ended, trace_of}
 use Rattle.text_trace.proofs.Cuts.{cut_here}
@@ -30,6 +30,7 @@ returns-clause-whole g c =
     record {
       text =
           c.in_ok-expecting.ensures.lines
+          ∙ ap (λ (xs : List ℕ). xs ++ lines_by c.in-Ok.ended c.args.names.now (following c.run_events.new.watch)) c.new-lines.ensures.items
           ∙ (λ i. lines_by (ends i) (named i) (followed i))
           ∙ lines_told of g.wanted.expected (states.seen c.args.watching) begun trace;
       out =
