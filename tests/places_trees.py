@@ -82,6 +82,7 @@ TOP = [
          '<root BTCPP_format="4" main_tree_to_execute="Man">\n<BehaviorTree ID="Main"><A/></BehaviorTree></root>'),
     Case("a main tree of the words", 3, "refused tree NoTree 'Greet'\n", "T:1:1:", ("after --main", "'M'"), nodes("<A/>"),
          words="check T --main Greet"),
+    Case("an ID that no leaf has", 3, "refused tree NoLeaf 'Say'\n", "T: error: no leaf", ("bt check",), nodes("<A/>"), words="exclusive T A Say"),
     Case("an empty main tree", 3, "refused tree ChildCount 0\n", "T:2:1:", ("the tree 'M' has no nodes at its top",), nodes("")),
 ]
 

@@ -98,13 +98,13 @@ def of_tree(command: Command, words: str) -> List[str]:
         return []
     if words == "TooLong":
         return too_long(source.name, source) if len(source.data) > MOST_BYTES else []
-    if words.startswith("NoLeaf "):
-        return [f"{source.name}: error: {TREE['NoLeaf'].wrong} ({words}): {TREE['NoLeaf'].right}"]
     try:
-        open_file(read_file(source, command.main))
+        file = read_file(source, command.main)
+        open_file(file)
     except Finding as finding:
         return told(source, finding) if finding.words == words else []
-    return []
+    has_leaf = any(node.kind == "Leaf" and words == f"NoLeaf '{node.id}'" for node in file.nodes)
+    return [f"{source.name}: error: {TREE['NoLeaf'].wrong} ({words}): {TREE['NoLeaf'].right}"] if words.startswith("NoLeaf ") and not has_leaf else []
 
 
 def of_world(command: Command, words: str) -> List[str]:

@@ -61,22 +61,37 @@ static NODES: [(&str, &str); 18] = [
         "<Parallel><Fallback><AlwaysSuccess/><A/></Fallback><B/><Delay delay_msec=\"5\"><C/></Delay></Parallel>",
         "together 5 7\npairs 1\nNotExclusive",
     ),
-    ("<Parallel><A/><D/><B/></Parallel>", "refused tree NoLeaf 'C'\nTree"),
+    (
+        "<Parallel><A/><D/><B/></Parallel>",
+        "refused tree NoLeaf 'C'\nTree",
+    ),
     ("<D/>", "refused tree NoLeaf 'A'\nTree"),
     ("<Sequence/>", "refused tree ChildCount 1\nTree"),
 ];
 
 /// Words over the file `T`, nodes, and what is printed.
 static WORDS: [(&[&str], &str, &str); 8] = [
-    (&["exclusive", "T", "A"], "<Parallel><A/><B/></Parallel>", "exclusive\nDone"),
+    (
+        &["exclusive", "T", "A"],
+        "<Parallel><A/><B/></Parallel>",
+        "exclusive\nDone",
+    ),
     (
         &["exclusive", "T", "B", "A", "--main", "M"],
         "<Parallel><A/><B/></Parallel>",
         "together 2 3\npairs 1\nNotExclusive",
     ),
     (&["exclusive", "T"], "<A/>", "refused words\nWords"),
-    (&["exclusive", "T", "--main", "M"], "<A/>", "refused words\nWords"),
-    (&["exclusive", "T", "A", "--main"], "<A/>", "refused words\nWords"),
+    (
+        &["exclusive", "T", "--main", "M"],
+        "<A/>",
+        "refused words\nWords",
+    ),
+    (
+        &["exclusive", "T", "A", "--main"],
+        "<A/>",
+        "refused words\nWords",
+    ),
     (
         &["exclusive", "T", "A", "--main", "M", "B"],
         "<A/>",
@@ -131,9 +146,18 @@ fn a_write_of_a_pair_may_fail(rt: HostRuntime) -> Result<(), Fail> {
         (1, 4, "togeWrite"),
         (2, 5, "together 2 3\ntogetWrite"),
         (4, 3, "together 2 3\ntogether 2 4\ntogether 3 4\npaiWrite"),
-        (5, 0, "together 2 3\ntogether 2 4\ntogether 3 4\npairs 3\nNotExclusive"),
+        (
+            5,
+            0,
+            "together 2 3\ntogether 2 4\ntogether 3 4\npairs 3\nNotExclusive",
+        ),
     ] {
-        let text = cut(rt.alloc(), "<Parallel><A/><B/><C/></Parallel>", write, taken)?;
+        let text = cut(
+            rt.alloc(),
+            "<Parallel><A/><B/><C/></Parallel>",
+            write,
+            taken,
+        )?;
         assert_eq!(rt; text.as_str(), want);
     }
     Ok(())

@@ -245,7 +245,7 @@ leaves_more ids dead before after all uid next t ts rest here is more known =
     let marks : List Bool = listed_marks ids t in
     let others : List Bool = flat_map (λ ms. ms) (map (listed_marks ids) rest) in
     let parts : living_marked dead uid (marks ++ others) ≡ living_marked dead uid marks ++ living_marked dead next others =
-        ap (filter lives) (marked_append uid next marks others (is ∙ ap (λ n. uid + n) (sym (many_marks ids t)))) ∙ filter-append lives (marked uid marks) (marked next others) in
+    ap (filter lives) (marked_append uid next marks others (is ∙ ap (λ n. uid + n) (sym (many_marks ids t)))) ∙ filter-append lives (marked uid marks) (marked next others) in
     ap (λ (us : List ℕ). us ++ living_marked dead next others) more
     ∙ append_assoc before (living_marked dead uid marks) (living_marked dead next others)
     ∙ ap (λ (us : List ℕ). before ++ us) (sym parts)

@@ -64,4 +64,3 @@ module _ (site : Site) where
   posts_silent Skipped s = refl
   posts_silent Success s = two_silent site.node.guards.on_success site.node.guards.post s
   posts_silent Failure s = two_silent site.node.guards.on_failure site.node.guards.post s
-

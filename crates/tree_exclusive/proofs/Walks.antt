@@ -92,8 +92,7 @@ is_before least end [] i d rising within before = absurd (omega (arith, within))
 is_before least end (x ∷ xs) zero d rising within before =
     (rising.0, omega (arith, ap length (cond-true (nat_lt x end) (x ∷ below end xs) [] (lt-ltb x end before))))
 is_before least end (x ∷ xs) (suc i) d rising within before =
-    let rest = is_before (x + 1) end xs i d rising.1 (omega (arith, within)) before in
-    (
+    let rest = is_before (x + 1) end xs i d rising.1 (omega (arith, within)) before in (
       omega (arith, rising.0, rest.0),
       omega (arith, rest.1, ap length (cond-true (nat_lt x end) (x ∷ below end xs) [] (lt-ltb x end (omega (arith, rest.0, before))))),
     )
@@ -134,7 +133,7 @@ partition_is least end xs k rising within (before, after) = omega (arith, low k 
     low zero within before = omega arith
     low (suc j) within before =
         let is : (least ≤ get_or xs j 0) × (j < length (below end xs)) =
-            is_before least end xs j 0 rising (omega (arith, within)) (ltb-true (get_or xs j 0) end (before j 0 (omega arith) (omega arith))) in
+        is_before least end xs j 0 rising (omega (arith, within)) (ltb-true (get_or xs j 0) end (before j 0 (omega arith) (omega arith))) in
         omega (arith, is.1)
 
     high : (k < length xs) ⊎ (length xs ≤ k) → length (below end xs) ≤ k

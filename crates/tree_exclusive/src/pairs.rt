@@ -81,12 +81,7 @@ fn add_each(
 /// Adds the pairs of a leaf, to which these steps lead, and of those of these later leaves that it may
 /// meet: those that stand below the last child to which a step leads are met by the steps after it. The
 /// error is want of memory.
-fn add_with(
-    earlier: u32,
-    later: &[u32],
-    steps: &[Step],
-    found: &mut Found,
-) -> Result<(), NoMemory>
+fn add_with(earlier: u32, later: &[u32], steps: &[Step], found: &mut Found) -> Result<(), NoMemory>
     requires count { found.old.count + length later.now < 2 ^ 63 }
     requires rising { Rising 0 later.now }
     ensures pairs { OnOk result ((pairs : List FoundPair) → IsFound found.old pairs →

@@ -168,12 +168,7 @@ fn write_exclusive<K: Sink>(
 
 /// Prints which leaves with these IDs may be held together, or that no leaf has one of them. Where the exit
 /// is that of a whole answer, no run holds two of them together.
-pub fn print_exclusive<K: Sink>(
-    alloc: Global,
-    tree: &Tree,
-    ids: &[Name],
-    out: &mut K,
-) -> Exit
+pub fn print_exclusive<K: Sink>(alloc: Global, tree: &Tree, ids: &[Name], out: &mut K) -> Exit
     requires { IsValid tree.now }
     ensures printed { Printed (exclusive_output ids.now (Ok tree.now)) result
         (K.written out.old) (K.faults out.old) (K.written out.new) (K.faults out.new) }

@@ -58,14 +58,14 @@ loop-child-preserved t c =
     let end = c.args.uid + node_count c.args.term.now in
     let count : c.nodes_in.result ≡ node_count child = c.nodes_in.ensures in
     let nodes : first + c.nodes_in.result + sum (map node_count after) ≡ end =
-        count_more first (first + c.nodes_in.result) end child (drop i items) after here (ap (λ (n : ℕ). first + n) count) known.nodes in
+    count_more first (first + c.nodes_in.result) end child (drop i items) after here (ap (λ (n : ℕ). first + n) count) known.nodes in
     let within : first + node_count child ≤ end = omega (arith, nodes, count) in
     let left_is : c.in_ok-rest-2.rest.now ≡ beyond (first + c.nodes_in.result) rest =
-        c.in_ok-rest-2.ensures.rest ∙ ap (λ (n : ℕ). beyond (first + n) rest) (sym count) in
+    c.in_ok-rest-2.ensures.rest ∙ ap (λ (n : ℕ). beyond (first + n) rest) (sym count) in
     let parted : length (below (first + c.nodes_in.result) rest) + length (beyond (first + c.nodes_in.result) rest) ≡ length rest = few_below (first + c.nodes_in.result) rest in
     let fewer : length c.in_ok-rest-2.rest.now ≡ length (beyond (first + c.nodes_in.result) rest) = ap length left_is in
     let pushed : c.push.new.self.items ≡ outer ++ (record { end = first + c.nodes_in.result; meeting = c.meeting_at-meeting.result } ∷ []) =
-        c.in_ok-push.ensures.items ∙ ap (λ (steps : List Step). steps ++ (record { end = first + c.nodes_in.result; meeting = c.meeting_at-meeting.result } ∷ [])) known.steps in
+    c.in_ok-push.ensures.items ∙ ap (λ (steps : List Step). steps ++ (record { end = first + c.nodes_in.result; meeting = c.meeting_at-meeting.result } ∷ [])) known.steps in
     let met : c.meeting_at-meeting.result ≡ meeting_at kind c.loop-child.place = c.meeting_at-meeting.ensures in
     let many : vec_len c.add_below.new.steps ≡ length c.add_below.new.steps.items = omega arith in
     record {

@@ -42,9 +42,9 @@ returns-clause-pairs t c =
     let first : List Pair = pairs_with (λ w. by_steps (others steps)) u c.split_at.result.0.now in
     let second : List Pair = pairs_with (λ w v. step.meeting) u c.split_at.result.1.now in
     let parts : pairs_with (λ w. by_steps steps) u later ≡ first ++ second =
-        with_steps steps no_step u later c.in-len1-up.len_at_least c.requires.rising
-        ∙ ap (λ (us : List ℕ). pairs_with (λ w. by_steps (others steps)) u us ++ pairs_with (λ w v. step.meeting) u (beyond step.end later)) (sym inside)
-        ∙ ap (λ (us : List ℕ). first ++ pairs_with (λ w v. step.meeting) u us) (sym outside) in
+    with_steps steps no_step u later c.in-len1-up.len_at_least c.requires.rising
+    ∙ ap (λ (us : List ℕ). pairs_with (λ w. by_steps (others steps)) u us ++ pairs_with (λ w v. step.meeting) u (beyond step.end later)) (sym inside)
+    ∙ ap (λ (us : List ℕ). first ++ pairs_with (λ w v. step.meeting) u us) (sym outside) in
     on_ok c.add_each-2.result
     (λ adds pairs was. subst (λ (ps : List Pair). IsFound c.add_each-2.new.found ps) (append_assoc pairs first second ∙ ap (λ (ps : List Pair). pairs ++ ps) (sym parts))
     (adds (pairs ++ first) (c.in_ok-add_with.ensures.pairs pairs was)))

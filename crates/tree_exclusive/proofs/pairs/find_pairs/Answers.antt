@@ -20,9 +20,9 @@ returns-clause-pairs c =
     let end = 1 + node_count tree.term in
     let leaves : c.as_slice.result.now ≡ listed_leaves ids tree = c.as_slice.ensures.value ∙ c.in_ok-leaves.ensures.leaves in
     let all : pairs_from (steps_after c.new-steps.result.items 1 tree.term) (below end c.as_slice.result.now) (beyond end c.as_slice.result.now) ≡ meeting_pairs ids tree =
-        ap (λ (us : List ℕ). pairs_from (steps_after c.new-steps.result.items 1 tree.term) (below end us) (beyond end us)) leaves
-        ∙ ap (λ (steps : List Step). pairs_from (steps_after steps 1 tree.term) (below end (listed_leaves ids tree)) (beyond end (listed_leaves ids tree))) c.new-steps.ensures.items
-        ∙ whole_pairs tree.term end (listed_leaves ids tree) (listed_rise ids tree) (listed_within ids tree) in
+    ap (λ (us : List ℕ). pairs_from (steps_after c.new-steps.result.items 1 tree.term) (below end us) (beyond end us)) leaves
+    ∙ ap (λ (steps : List Step). pairs_from (steps_after steps 1 tree.term) (below end (listed_leaves ids tree)) (beyond end (listed_leaves ids tree))) c.new-steps.ensures.items
+    ∙ whole_pairs tree.term end (listed_leaves ids tree) (listed_rise ids tree) (listed_within ids tree) in
     subst (λ (ps : List Pair). IsFound c.add_below.new.found ps) all
     (c.in_ok-add_below.ensures.pairs [] (record { first = c.new.ensures.items; count = refl }))
 
@@ -30,6 +30,6 @@ pub returns-clause-apart : goal.returns-clause-apart
 returns-clause-apart c valid few =
     let found = returns-clause-pairs c in
     let all : c.add_below.new.found.pairs.items ≡ meeting_pairs c.args.ids.now c.args.tree.now =
-        found.first ∙ take_all 100 (meeting_pairs c.args.ids.now c.args.tree.now) (omega (arith, found.count, few)) in
+    found.first ∙ take_all 100 (meeting_pairs c.args.ids.now c.args.tree.now) (omega (arith, found.count, few)) in
     subst (λ (ps : List Pair). AreApart c.args.ids.now c.args.tree.now ps) (sym all)
     (c.no_run_holds_exclusive_leaves_together.ensures c.args.tree.now valid c.args.ids.now)
