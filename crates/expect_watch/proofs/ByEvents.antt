@@ -1,5 +1,5 @@
 -- The forms of expectation that are lost with an event, and not by a note within it.
-use Rattle.std.proofs.Common.{◌≡◌, ◌⊎◌, inl, inr, ℕ, ℤ, ◌+◌, ◌-◌, ◌^◌, ◌≤◌, ◌<◌, min, List, [], ◌∷◌, ◌++◌, Bool, true, false, not, ◌&&◌, ◌||◌, cond, nat_le, nat_lt, Option, Some, None, refl, sym, ap, subst, ◌∙◌, arith}
+use Rattle.std.proofs.Common.{◌≡◌, inl, inr, ℕ, ℤ, ◌+◌, ◌-◌, ◌^◌, ◌≤◌, ◌<◌, min, List, [], ◌∷◌, ◌++◌, Bool, true, false, not, ◌&&◌, ◌||◌, cond, nat_le, nat_lt, Option, Some, None, refl, sym, ap, subst, ◌∙◌, arith}
 use Rattle.std.specs.List.{count_by, list_all, list_any}
 use Rattle.std.specs.Ordering.{nat_cmp}
 use Rattle.std.proofs.lemmas.Bool.Decides.{nat_tests}
@@ -17,13 +17,13 @@ use Rattle.spec_world.specs.declared.world.Fact.{Fact}
 use Rattle.run_driver.specs.declared.expression.ReadyExpr.{ReadyExpr}
 use Rattle.spec_expect.specs.declared.expectation.Expectation.{Expectation}
 use Rattle.spec_expect.specs.declared.expectation.Expectation.TheVariants as expected
-use Rattle.spec_expect.specs.Met.{Held, are_until, held_after, is_end, is_lost, is_root, is_so, is_start, may_compare, meets, starts_in, until}
+use Rattle.spec_expect.specs.Met.{Held, are_until, held_after, is_end, is_lost, is_root, is_so, is_start, may_compare, starts_in, until}
 use Rattle.spec_expect.specs.Stories.{Happening, Sight, facts_after, happenings_in}
 use Rattle.expect_watch.specs.declared.memo.Memo.{Memo}
 use Rattle.expect_watch.specs.declared.memo.Memo.TheVariants.{Always, At, By, Starts, Ends}
 use Rattle.expect_watch.specs.declared.watching.Watched.{Watched}
 use Rattle.expect_watch.specs.Memos.{after_event, after_note, is_lost_after, is_lost_by, is_met, one_more}
-use Rattle.expect_watch.specs.States.{event_ended, left_with, noted}
+use Rattle.expect_watch.specs.States.{event_ended, left_with}
 use Rattle.expect_watch.specs.Tests.{is_ready_so}
 use Rattle.expect_watch.proofs.Follows.{FollowsBy, Steps, held_at, next_of, so_far}
 use Rattle.expect_watch.proofs.Until.{are_until_both, count_cons, happenings_both, happenings_more, le_not_lt, until_all, until_early, until_late, until_more, until_over}

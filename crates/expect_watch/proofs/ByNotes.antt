@@ -1,27 +1,17 @@
 -- Expectations that are lost by a note, where it happens: each happening is tested by those before it.
-use Rattle.std.proofs.Common.{◌≡◌, ◌⊎◌, inl, inr, ℕ, ℤ, List, [], ◌∷◌, ◌++◌, Bool, true, false, not, ◌&&◌, ◌||◌, cond, Option, Some, None, refl, sym, ap, subst, ◌∙◌, append_assoc}
-use Rattle.std.specs.List.{list_all, list_any}
-use Rattle.std.proofs.lemmas.Bool.{and_left, not-false, not-true, not_from_true}
+use Rattle.std.proofs.Common.{◌≡◌, ◌⊎◌, inl, inr, ℕ, ℤ, List, [], ◌∷◌, ◌++◌, Bool, true, false, not, ◌&&◌, cond, Some, None, refl, sym, ap, subst, ◌∙◌, append_assoc}
+use Rattle.std.specs.List.{list_all}
+use Rattle.std.proofs.lemmas.Bool.{and_left, not-false, not-true}
 use Rattle.std.proofs.lemmas.List.{append-nil}
-use Rattle.std.proofs.lemmas.List.Folds.{list_any-append}
-use Rattle.std.proofs.Math.Bool.{and-false, and-true, or-false}
-use Rattle.spec_script.specs.declared.syntax.Expr.{Expr}
-use Rattle.spec_run.specs.declared.note.Note.{Note}
-use Rattle.spec_run.specs.declared.status.Answer.{Answer}
-use Rattle.spec_run.specs.declared.status.Answer.TheVariants as answer
 use Rattle.spec_world.specs.declared.world.Fact.{Fact}
-use Rattle.run_driver.specs.declared.expression.ReadyExpr.{ReadyExpr}
 use Rattle.spec_expect.specs.declared.expectation.Expectation.{Expectation}
-use Rattle.spec_expect.specs.declared.expectation.Expectation.TheVariants as expected
-use Rattle.spec_expect.specs.Met.{Held, are_together, each_after, held_after, held_from, is_end, is_lost, is_root, is_so, is_start, meets}
+use Rattle.spec_expect.specs.Met.{Held, each_after, held_after, held_from, is_lost, meets}
 use Rattle.spec_expect.specs.Stories.{Happening, Sight, happenings_in}
 use Rattle.expect_watch.specs.declared.memo.Memo.{Memo}
-use Rattle.expect_watch.specs.declared.memo.Memo.TheVariants.{NeverAnswers, StartsOnly, NeverWith, Order}
 use Rattle.expect_watch.specs.declared.watching.Watched.{Watched}
 use Rattle.expect_watch.specs.Memos.{after_event, after_note, is_lost_after, is_lost_by, is_met}
-use Rattle.expect_watch.specs.States.{event_ended, left_with, noted}
-use Rattle.expect_watch.specs.Tests.{is_ready_so}
-use Rattle.expect_watch.proofs.Follows.{FollowsBy, Steps, held_at, next_of, so_far}
+use Rattle.expect_watch.specs.States.{event_ended, left_with}
+use Rattle.expect_watch.proofs.Follows.{FollowsBy, Steps, next_of, so_far}
 use Rattle.expect_watch.proofs.Until.{happenings_both, happenings_more}
 use Rattle.expect_watch.proofs.Watches.{ended_kept, ended_lost, held_both, noted_kept, notes_lost, notes_watched, sight_watched}
 

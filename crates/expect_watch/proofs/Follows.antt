@@ -1,13 +1,13 @@
 -- What is kept for an expectation follows a run: at its end it tells whether the run meets it, and with which event it was
 -- lost. This is the induction over the events, the same for every form of expectation.
-use Rattle.std.proofs.Common.{◌≡◌, ◌⊎◌, inl, inr, ℕ, ℤ, List, [], ◌∷◌, ◌++◌, Bool, true, false, cond, Option, Some, None, refl, sym, ap, subst, ◌∙◌}
+use Rattle.std.proofs.Common.{◌≡◌, ◌⊎◌, inl, inr, ℕ, ℤ, List, [], ◌∷◌, ◌++◌, Bool, true, false, cond, Option, Some, None, refl, sym, ap, ◌∙◌}
 use Rattle.std.proofs.lemmas.List.{append-nil}
 use Rattle.spec_world.specs.declared.world.Fact.{Fact}
 use Rattle.spec_expect.specs.declared.expectation.Expectation.{Expectation}
 use Rattle.spec_expect.specs.declared.verdict.Verdict.{Verdict}
 use Rattle.spec_expect.specs.declared.verdict.Verdict.TheVariants.{Pass, Fail}
 use Rattle.spec_expect.specs.Met.{Held, held_from, is_lost, lost_from, meets}
-use Rattle.spec_expect.specs.Stories.{Happening, Sight, Story, happenings_in}
+use Rattle.spec_expect.specs.Stories.{Sight, Story, happenings_in}
 use Rattle.expect_watch.specs.declared.memo.Memo.{Memo}
 use Rattle.expect_watch.specs.declared.watching.Watched.{Watched}
 use Rattle.expect_watch.specs.Memos.{is_met}

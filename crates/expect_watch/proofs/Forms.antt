@@ -1,21 +1,21 @@
 -- The four forms of expectation that are lost by a note.
-use Rattle.std.proofs.Common.{◌≡◌, ℕ, ℤ, List, [], ◌∷◌, ◌++◌, Bool, true, false, not, ◌&&◌, ◌||◌, refl, sym, ap, subst, ◌∙◌}
+use Rattle.std.proofs.Common.{◌≡◌, ℕ, ℤ, List, [], ◌∷◌, ◌++◌, Bool, true, false, not, ◌&&◌, ◌||◌, refl, sym, ap, ◌∙◌}
 use Rattle.std.specs.List.{list_all, list_any}
 use Rattle.std.proofs.lemmas.List.Folds.{list_any-append}
-use Rattle.std.proofs.Math.Bool.{and-false, and-true, or-false}
+use Rattle.std.proofs.Math.Bool.{and-true, or-false}
 use Rattle.spec_script.specs.declared.syntax.Expr.{Expr}
 use Rattle.spec_run.specs.declared.status.Answer.{Answer}
 use Rattle.spec_run.specs.declared.status.Answer.TheVariants as answer
 use Rattle.spec_world.specs.declared.world.Fact.{Fact}
 use Rattle.run_driver.specs.declared.expression.ReadyExpr.{ReadyExpr}
 use Rattle.spec_expect.specs.declared.expectation.Expectation.TheVariants as expected
-use Rattle.spec_expect.specs.Met.{Held, are_together, each_after, held_from, is_end, is_root, is_so, is_start}
-use Rattle.spec_expect.specs.Stories.{Happening, Sight, happenings_in}
+use Rattle.spec_expect.specs.Met.{are_together, each_after, held_from, is_end, is_root, is_so, is_start}
+use Rattle.spec_expect.specs.Stories.{Happening, happenings_in}
 use Rattle.expect_watch.specs.declared.memo.Memo.{Memo}
 use Rattle.expect_watch.specs.declared.memo.Memo.TheVariants.{NeverAnswers, StartsOnly, NeverWith, Order}
 use Rattle.expect_watch.specs.Memos.{after_event, after_note, is_lost_after, is_lost_by, is_met}
 use Rattle.expect_watch.specs.Tests.{is_ready_so}
-use Rattle.expect_watch.proofs.ByNotes.{KeepsAll, Test, TestsBy, each_alone, follows_tests}
+use Rattle.expect_watch.proofs.ByNotes.{Test, TestsBy, each_alone, follows_tests}
 use Rattle.expect_watch.proofs.Follows.{FollowsBy}
 
 not_twice : (b : Bool) → b ≡ not (not b)

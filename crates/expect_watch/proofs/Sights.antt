@@ -1,23 +1,24 @@
 -- What is taken block by block is what happens in the events that the blocks tell.
-use Rattle.std.proofs.Common.{◌≡◌, ℕ, ℤ, zero, suc, List, [], ◌∷◌, ◌++◌, map, Option, Some, None, refl, sym, ap, subst, ◌∙◌}
+use Rattle.std.proofs.Common.{◌≡◌, ℕ, ℤ, zero, suc, List, [], ◌∷◌, ◌++◌, map, refl, sym, ap, subst, ◌∙◌}
 use Rattle.std.specs.Prelude.{option_and_then, slice_get, slice_index_or}
 use Rattle.std.specs.List.{flat_map}
 use Rattle.std.proofs.lemmas.List.{map-append}
+use Rattle.std.proofs.lemmas.List.Folds.{flat_map-map}
 use Rattle.spec_run.specs.declared.block.Block.{Block}
 use Rattle.spec_run.specs.declared.note.Note.{Note}
 use Rattle.spec_run.specs.declared.note.Note.TheVariants.{Started, Ran}
 use Rattle.spec_run.specs.declared.status.Answer.TheVariants.{Success}
-use Rattle.spec_run.specs.Joins.{row_at, row_of_node}
+use Rattle.spec_run.specs.Joins.{row_of_node}
 use Rattle.spec_run.specs.Leaf.{effects_of}
 use Rattle.spec_run.specs.Served.{Setup}
-use Rattle.spec_tree.specs.declared.term.Term.{Term, Term-F, fold-roll-Term, ind-Term, roll-Term}
+use Rattle.spec_tree.specs.declared.term.Term.{Term, Term-F, fold-roll-Term, fold_out-Term, ind-Term, out-Term}
 use Rattle.spec_tree.specs.Trees.{Node, nodes_of, nodes_step}
 use Rattle.spec_world.specs.declared.world.Row.{Row}
 use Rattle.spec_world.specs.declared.world.Set.{Set}
 use Rattle.spec_expect.specs.Met.{Held, held_after, held_from}
 use Rattle.spec_expect.specs.Stories.{Happening, Sight, after_block, after_note, after_notes, effects_at, event_moment, event_runner, happenings_of, left_by, runner_of, sets_of, sight_of, sights_of}
 use Rattle.expect_watch.specs.declared.watching.Watched.{Watched}
-use Rattle.expect_watch.specs.Begun.{sets_in, sets_step}
+use Rattle.expect_watch.specs.Begun.{row_at_node, sets_in, sets_step}
 use Rattle.expect_watch.specs.States.{State, all_taken, effects_had, event_ended, event_taken, note_taken, noted, notes_taken, taken}
 use Rattle.expect_watch.proofs.Watches.{last_of, notes_watched, sight_watched, sights_watched}
 
@@ -57,6 +58,12 @@ sets_at : (rows : List Row) (nodes : List Node) (place : ℕ) → slice_index_or
 sets_at rows [] place = refl
 sets_at rows (n ∷ nodes) zero = refl
 sets_at rows (n ∷ nodes) (suc place) = sets_at rows nodes place
+
+-- those of a term are those of its node, and then those of its children
+pub sets_out : (rows : List Row) (term : Term) → sets_in rows term ≡ sets_of (row_at_node rows term) ∷ flat_map (sets_in rows) (out-Term term).children
+sets_out rows term =
+    fold_out-Term (List (List Set)) (sets_step rows) term
+    ∙ ap (λ (sets : List (List Set)). sets_of (row_at_node rows term) ∷ sets) (flat_map-map (λ (sets : List (List Set)). sets) (sets_in rows) (out-Term term).children)
 
 -- what is kept of the effects of each leaf
 abbrev pub HasEffects : Setup → List (List Set) → Type 0

@@ -1,12 +1,11 @@
 -- What was watched over the blocks of a run tells what is told of that run.
-use Rattle.std.proofs.Common.{◌≡◌, ℕ, ℤ, ◌+◌, List, [], ◌∷◌, ◌++◌, map, length, Bool, true, false, not, cond, Option, Some, None, refl, sym, ap, subst, ◌∙◌, arith}
-use Rattle.std.specs.List.{All, count_by, flat_map}
+use Rattle.std.proofs.Common.{◌≡◌, ℕ, ◌+◌, List, [], ◌∷◌, map, length, Bool, true, false, not, cond, Option, Some, None, refl, sym, ap, ◌∙◌, arith}
+use Rattle.std.specs.List.{count_by, flat_map}
 use Rattle.std.proofs.lemmas.List.{length-map}
 use Rattle.std.proofs.lemmas.List.Elements.{All-head, All-tail}
 use Rattle.std.proofs.lemmas.List.Folds.{flat_map-map}
 use Rattle.spec_run.specs.declared.block.Block.{Block}
 use Rattle.spec_run.specs.Served.{Setup}
-use Rattle.spec_world.specs.declared.world.Fact.{Fact}
 use Rattle.spec_expect.specs.declared.expectation.Expected.{Expected}
 use Rattle.spec_expect.specs.declared.verdict.Verdict.{Verdict}
 use Rattle.spec_expect.specs.declared.verdict.Verdict.TheVariants.{Pass, Fail}
@@ -16,9 +15,8 @@ use Rattle.spec_expect.specs.Verdicts.{failed, is_met, line_of, lines_of, passed
 use Rattle.spec_expect.specs.Verdicts as told
 use Rattle.expect_watch.specs.declared.watching.Watched.{Watched}
 use Rattle.expect_watch.specs.Begun.{AreBegun, BegunOn}
-use Rattle.expect_watch.specs.Memos.{after_event, after_note, is_lost_after, is_lost_by}
 use Rattle.expect_watch.specs.Over.{AreOver, IsOver}
-use Rattle.expect_watch.specs.States.{State, all_taken, event_ended, is_failed, noted, unless_lost, verdict_of}
+use Rattle.expect_watch.specs.States.{State, all_taken, is_failed, unless_lost, verdict_of}
 use Rattle.expect_watch.proofs.Sights.{blocks_last, blocks_watched}
 use Rattle.expect_watch.proofs.Until.{count_cons}
 use Rattle.expect_watch.proofs.Verdicts.{begun_tells}

@@ -1,7 +1,7 @@
 -- The events up to a moment, and what is true of some and of more events.
-use Rattle.std.proofs.Common.{◌≡◌, ℕ, suc, ◌+◌, List, [], ◌∷◌, ◌++◌, take, Bool, true, false, not, ◌&&◌, ◌||◌, cond, nat_le, nat_lt, refl, sym, ap, ◌∙◌, append_assoc, arith}
-use Rattle.std.specs.List.{count_by, flat_map, list_all, list_any, prefix_len}
-use Rattle.std.proofs.lemmas.Bool.{and_parts, cases_Bool, not-true}
+use Rattle.std.proofs.Common.{◌≡◌, ℕ, suc, ◌+◌, List, [], ◌∷◌, ◌++◌, take, Bool, true, false, not, ◌&&◌, cond, nat_le, nat_lt, refl, sym, ap, ◌∙◌, append_assoc, arith}
+use Rattle.std.specs.List.{count_by, prefix_len}
+use Rattle.std.proofs.lemmas.Bool.{and_parts, not-true}
 use Rattle.std.proofs.lemmas.Bool.Decides.{nat_tests}
 use Rattle.std.proofs.lemmas.Grind.{flat_map-append}
 use Rattle.std.proofs.lemmas.List.{append-nil}

@@ -1,14 +1,13 @@
 -- What is kept for any expectation tells at the end of a run what becomes of it.
-use Rattle.std.proofs.Common.{◌≡◌, ℕ, ℤ, List, [], ◌∷◌, Bool, true, false, not, ◌&&◌, cond, Option, Some, None, refl, sym, ap, subst, ◌∙◌}
+use Rattle.std.proofs.Common.{◌≡◌, ℤ, List, [], Bool, true, false, not, ◌&&◌, cond, Some, None, refl, sym, ap, ◌∙◌}
 use Rattle.spec_world.specs.declared.world.Fact.{Fact}
 use Rattle.spec_expect.specs.declared.expectation.Expectation.{Expectation}
 use Rattle.spec_expect.specs.declared.expectation.Expectation.TheVariants as expected
 use Rattle.spec_expect.specs.declared.expectation.Expected.{Expected}
-use Rattle.spec_expect.specs.declared.verdict.Verdict.TheVariants.{Pass, Fail}
-use Rattle.spec_expect.specs.Met.{is_lost, is_so, may_compare, meets}
+use Rattle.spec_expect.specs.Met.{is_lost, is_so}
 use Rattle.spec_expect.specs.Stories.{Sight, happenings_in}
 use Rattle.expect_watch.specs.declared.memo.Memo.{Memo}
-use Rattle.expect_watch.specs.declared.memo.Memo.TheVariants.{Always, At, By, NeverAnswers, StartsOnly, Starts, Ends, NeverWith, Order}
+use Rattle.expect_watch.specs.declared.memo.Memo.TheVariants.{Always, At, StartsOnly}
 use Rattle.expect_watch.specs.declared.watching.Watched.{Watched}
 use Rattle.expect_watch.specs.Begun.{IsBegun}
 use Rattle.expect_watch.specs.Memos.{IsMemoOf, is_lost_now}

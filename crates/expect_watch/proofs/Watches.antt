@@ -1,6 +1,5 @@
 -- What is kept for one expectation over the notes of an event and over events.
-use Rattle.std.proofs.Common.{◌≡◌, ℕ, List, [], ◌∷◌, ◌++◌, Bool, true, false, Option, Some, None, refl, ap, ◌∙◌}
-use Rattle.spec_expect.specs.declared.verdict.Verdict.{Verdict}
+use Rattle.std.proofs.Common.{◌≡◌, ℕ, List, [], ◌∷◌, ◌++◌, Bool, true, Option, Some, None, refl, ap, ◌∙◌}
 use Rattle.spec_expect.specs.declared.verdict.Verdict.TheVariants.{Fail}
 use Rattle.spec_expect.specs.Met.{Held, held_after, held_from}
 use Rattle.spec_expect.specs.Stories.{Happening, Sight}

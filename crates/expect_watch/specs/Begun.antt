@@ -1,5 +1,5 @@
 -- What is kept of a run before its first event.
-use Rattle.std.specs.Prelude.{ℕ, ℤ, ◌≡◌, List, [], ◌∷◌, ◌++◌, Option, Some, None, Bool, if◌then◌else◌}
+use Rattle.std.specs.Prelude.{ℤ, ◌≡◌, List, [], ◌∷◌, Option, Some, None, if◌then◌else◌}
 use Rattle.std.specs.List.{flat_map}
 use Rattle.spec_tree.specs.declared.term.Term.{Term, Term-F, fold-Term, out-Term}
 use Rattle.spec_tree.specs.declared.term.Tree.{Tree}
@@ -12,7 +12,6 @@ use Rattle.spec_world.specs.declared.world.Set.{Set}
 use Rattle.spec_world.specs.declared.world.World.{World}
 use Rattle.spec_expect.specs.declared.expectation.Expected.{Expected}
 use Rattle.spec_expect.specs.Stories.{opening_facts, sets_of}
-use Rattle.expect_watch.specs.declared.memo.Memo.{Memo}
 use Rattle.expect_watch.specs.declared.watching.Watched.{Watched}
 use Rattle.expect_watch.specs.Memos.{IsMemoOf, is_lost_now}
 use Rattle.expect_watch.specs.Over.{AreOver}

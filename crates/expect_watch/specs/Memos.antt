@@ -1,5 +1,5 @@
 -- What is kept for one expectation, note by note and event by event, and when it is lost.
-use Rattle.std.specs.Prelude.{ℕ, ℤ, ◌+◌, ◌-◌, ◌^◌, ◌≡◌, ◌≤◌, min, List, length, nat_eq, nat_le, nat_lt, Bool, true, false, not, ◌&&◌, ◌||◌, if◌then◌else◌}
+use Rattle.std.specs.Prelude.{ℕ, ℤ, ◌+◌, ◌-◌, ◌^◌, ◌≡◌, ◌≤◌, min, List, nat_le, nat_lt, Bool, true, false, not, ◌&&◌, ◌||◌, if◌then◌else◌}
 use Rattle.std.specs.Ordering.{nat_cmp}
 use Rattle.spec_script.specs.Operators.{compares}
 use Rattle.spec_run.specs.declared.note.Note.{Note}
@@ -29,12 +29,16 @@ IsMemoOf names facts (expected.NeverWith first second) memo = memo ≡ NeverWith
 IsMemoOf names facts (expected.Order first second) memo = memo ≡ Order first second false
 IsMemoOf names facts _ memo = ⊥
 
--- the expression of a memo looks at so many facts at most
+-- how many places the expression of a memo looks at: eight of inputs, and the facts
+abbrev pub reach_of : Memo → ℕ
+reach_of (Always ready) = expr_reach ready
+reach_of (At ms ready is_past was_so) = expr_reach ready
+reach_of (StartsOnly leaves ready) = expr_reach ready
+reach_of _ = 0
+
+-- it looks at so many facts at most
 abbrev pub Fits : ℕ → Memo → Type 0
-Fits facts (Always ready) = expr_reach ready ≤ 8 + facts
-Fits facts (At ms ready is_past was_so) = expr_reach ready ≤ 8 + facts
-Fits facts (StartsOnly leaves ready) = expr_reach ready ≤ 8 + facts
-Fits facts _ = Unit {0}
+Fits facts memo = reach_of memo ≤ 8 + facts
 
 -- ---- Notes
 

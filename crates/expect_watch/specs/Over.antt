@@ -1,5 +1,5 @@
 -- Valid expectations: what every one is that a file of expectations says.
-use Rattle.std.specs.Prelude.{ℕ, List, [], ◌≤◌}
+use Rattle.std.specs.Prelude.{List, [], ◌≤◌}
 use Rattle.std.specs.List.{All}
 use Rattle.spec_tree.specs.Limits.{last_moment}
 use Rattle.spec_world.specs.declared.world.Fact.{Fact}

@@ -1,6 +1,5 @@
 -- What is kept of a run for all that is expected of it, block by block.
-use Rattle.std.specs.Prelude.{ℕ, ℤ, List, [], ◌∷◌, map, slice_index_or, Bool, true, false, if◌then◌else◌, Option, Some, None, ◌≡◌}
-use Rattle.std.specs.List.{All}
+use Rattle.std.specs.Prelude.{ℕ, ℤ, List, [], ◌∷◌, map, slice_index_or, Bool, true, false, if◌then◌else◌, Option, Some, None}
 use Rattle.spec_run.specs.declared.block.Block.{Block}
 use Rattle.spec_run.specs.declared.note.Note.{Note}
 use Rattle.spec_run.specs.declared.note.Note.TheVariants.{Started, Ran}

@@ -22,14 +22,21 @@ fn remove(held: &mut Vec<(u8, u32)>, runner: u8, uid: u32)
     held.retain(|leaf| !is_this(runner, uid, *leaf));
 }
 
+/// Whether the leaf of a uid of a runner is held.
+fn is_held(held: &[(u8, u32)], runner: u8, uid: u32) -> bool
+    ensures { result ≡ list_any (is_this runner uid) held.now }
+{
+    held.iter().any(|leaf| is_this(runner, uid, *leaf))
+}
+
 /// The leaf of a uid of a runner is held. The error is want of memory.
 fn add(held: &mut Vec<(u8, u32)>, runner: u8, uid: u32) -> Result<(), NoMemory>
     ensures { OnOk result (held.new.items ≡ with_leaf runner uid held.old.items) }
 {
-    let is_there = held.iter().any(|leaf| is_this(runner, uid, *leaf));
-    if !is_there {
-        held.push((runner, uid))?;
+    if is_held(held.as_slice(), runner, uid) {
+        return Ok(());
     }
+    held.push((runner, uid))?;
     Ok(())
 }
 

@@ -1,10 +1,9 @@
 ghost use Rattle.std.specs.Prelude.{◌≡◌, ◌≤◌, ◌++◌, ◌∷◌, [], IfOk, None, OnOk, Some, length, map};
 ghost use Rattle.std.specs.Option.{option_copied};
-ghost use Rattle.spec_tree.specs.Trees.{nodes_of};
 ghost use Rattle.spec_world.specs.Worlds.{IsValidWorld};
-ghost use Rattle.spec_run.specs.Served.{Setup};
+ghost use Rattle.spec_run.specs.Leaves as leaves;
 ghost use Rattle.spec_expect.specs.Stories.{sets_of};
-ghost use Rattle.expect_watch.specs.Begun.{BegunOn, IsBegun, row_at_node, sets_in, setup};
+ghost use Rattle.expect_watch.specs.Begun.{AreBegun, BegunOn, IsBegun, row_at_node, sets_in, setup};
 ghost use Rattle.expect_watch.specs.Memos.{Fits};
 ghost use Rattle.expect_watch.specs.States.{effects_had, event_ended, noted, seen};
 ghost use Rattle.expect_watch.specs.Over.{AreOver, IsOver};
@@ -14,7 +13,7 @@ use crate::facts::{change, leave};
 use crate::held::take_note;
 use crate::memo::{Memo, memo_of};
 use crate::notes::{event_moment, event_runner, runner_of};
-use base_texts::{Items, NoMemory};
+use base_texts::{Items, Name, NoMemory};
 use run_arena::Block;
 use run_driver::{FactTable, facts_of};
 use spec_expect::{Expected, Verdict};
@@ -47,14 +46,21 @@ pub struct Watching {
     pub last: u64,
 }
 
+/// The row of an ID. None where there is no such row.
+fn find_row<'a>(rows: &'a [Row], id: &Name) -> Option<&'a Row>
+    ensures { option_copied result ≡ leaves.row_of rows.now id.now }
+{
+    rows.iter().find(|row| row.id == *id)
+}
+
 /// The row of a node, where it is a leaf that has one.
 fn row_of<'a>(rows: &'a [Row], node: &Term) -> Option<&'a Row>
-    ensures { option_copied result ≡ row_at_node rows.entry.now node.now }
+    ensures { option_copied result ≡ row_at_node rows.now node.now }
 {
-    if node.kind != Kind::Leaf {
-        return None;
+    match node.kind {
+        Kind::Leaf => find_row(rows, &node.id),
+        _ => None,
     }
-    rows.iter().find(|row| row.id == node.id)
 }
 
 /// The effects of a node: those of its row, where it is a leaf that has one.
@@ -113,6 +119,26 @@ fn watched_of(
     Ok(Watched { line, memo, lost })
 }
 
+/// Expectations before the first event. The error is want of memory.
+fn watch_all(
+    alloc: Global,
+    expected: Items<Expected>,
+    names: &[Fact],
+    facts: &FactTable,
+) -> Result<Vec<Watched>, NoMemory>
+    requires over { AreOver names.now expected }
+    requires facts { length facts.now ≡ length names.now }
+    requires few { length names.now ≤ 1024 }
+    ensures begun { IfOk result (λ watched. AreBegun names.now facts.now expected watched.items) }
+    ensures fit { IfOk result (λ watched. AreFit (length facts.now) watched.items) }
+{
+    let mut watched = Vec::new(alloc);
+    for one in expected.into_vec() {
+        watched.push(watched_of(alloc, one, names, facts)?)?;
+    }
+    Ok(watched)
+}
+
 /// What is kept of the run of this tree in this world before its first event, for what is expected of it. The error is want of
 /// memory, that is, out of memory.
 pub fn watching_of(
@@ -127,10 +153,7 @@ pub fn watching_of(
 {
     let facts = facts_of(alloc, world)?;
     let effects = effects_in(alloc, tree, world.rows.list())?;
-    let mut watched = Vec::new(alloc);
-    for one in expected.into_vec() {
-        watched.push(watched_of(alloc, one, world.facts.list(), &facts)?)?;
-    }
+    let watched = watch_all(alloc, expected, world.facts.list(), &facts)?;
     Ok(Watching {
         watched,
         facts,

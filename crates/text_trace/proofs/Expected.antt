@@ -1,5 +1,5 @@
 -- A run that was followed block by block is told as the definition says.
-use Rattle.std.proofs.Common.{◌≡◌, ℕ, ◌+◌, ◌-◌, List, [], ◌∷◌, ◌++◌, length, Option, Some, None, Bool, true, false, cond, refl, sym, ap, subst, ◌∙◌, arith}
+use Rattle.std.proofs.Common.{◌≡◌, ℕ, ◌+◌, ◌-◌, ◌≤◌, List, [], ◌∷◌, ◌++◌, length, Option, Some, None, Bool, true, false, cond, refl, sym, ap, subst, ◌∙◌, arith}
 use Rattle.std.specs.Prelude.{find}
 use Rattle.std.specs.Option.{option_or}
 use Rattle.spec_run.specs.declared.block.Block.{Block}
@@ -34,6 +34,10 @@ or_none (Some x) = refl
 or_both : {X : Type 0} (a b c : Option X) → option_or (option_or a b) c ≡ option_or a (option_or b c)
 or_both None b c = refl
 or_both (Some x) b c = refl
+
+pub one_at_most : (b : Bool) → cond b 1 0 ≤ 1
+one_at_most true = omega arith
+one_at_most false = omega arith
 
 abbrev pub after_blocks : List Block → Following → Following
 after_blocks blocks f = record { state = all_taken blocks f.state; fault = option_or f.fault (find is_fault (notes_in blocks)) }

@@ -58,7 +58,7 @@ came_out ended.Done failed = met_or_not failed
 -- ---- By the run
 
 -- this text was made of the run with this trace, which came out so, and the drivers had its calls
-pub record IsExpected (of : Setup) (expected : List Expected) (arenas : List (List Node)) (old new : List DriverState) (text : List ℕ) (out : Expecting) (trace : Trace) : Type 0 where
-  pub text : text ≡ told_of of expected trace
-  pub out : out ≡ comes_out trace.fault (failed of trace.blocks expected)
+pub record IsExpected (of : Setup) (expected : List Expected) (arenas : List (List Node)) (old new : List DriverState) (lines : List ℕ) (came : Expecting) (trace : Trace) : Type 0 where
+  pub text : lines ≡ told_of of expected trace
+  pub out : came ≡ comes_out trace.fault (failed of trace.blocks expected)
   pub drivers : new ≡ roster_over arenas trace.calls old

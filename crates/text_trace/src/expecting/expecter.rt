@@ -1,4 +1,5 @@
 ghost use Rattle.std.specs.Prelude.{◌≡◌, IfSome, IsTrue, find};
+ghost use Rattle.std.specs.Option.{ForSome};
 ghost use Rattle.spec_expect.specs.Told.{is_fault};
 ghost use Rattle.expect_watch.specs.States as states;
 ghost use Rattle.expect_watch.specs.Valid.{IsFit};
@@ -17,7 +18,7 @@ pub struct Expecter {
     /// The note of the first fault.
     pub fault: Option<Note>,
     pub ghost fit: { IsFit (states.seen watching) },
-    pub ghost faulted: { IfSome fault (λ note. IsTrue (is_fault note)) },
+    pub ghost faulted: { ForSome fault (λ note. IsTrue (is_fault note)) },
 }
 
 /// Whether it is the note of a fault.

@@ -1,4 +1,4 @@
-ghost use Rattle.std.specs.Prelude.{◌≡◌, ◌++◌, IfOk, IfSome, IsTrue, OnErr, OnOk};
+ghost use Rattle.std.specs.Prelude.{◌≡◌, ◌+◌, ◌<◌, ◌^◌, ◌++◌, if◌then◌else◌, IfOk, IfSome, IsTrue, OnErr, OnOk};
 ghost use Rattle.std.specs.List.{count_by, flat_map};
 ghost use Rattle.spec_expect.specs.Told.{is_fault, line_of_note};
 ghost use Rattle.spec_expect.specs.Verdicts.{verdict_line};
@@ -35,6 +35,17 @@ pub enum Expecting {
     Faulted,
 }
 
+/// One more that is not met, where it does not pass.
+fn with_failed(failed: u64, verdict: Verdict) -> u64
+    requires { failed + 1 < 2 ^ 64 }
+    ensures { result ≡ failed + (if states.is_failed verdict then 1 else 0) }
+{
+    match verdict {
+        Verdict::Pass => failed,
+        Verdict::Fail { .. } => failed + 1,
+    }
+}
+
 /// Puts the line of each expectation in order, in a run whose last event has this moment, and tells how many are not met.
 fn put_verdicts(out: &mut Vec<u8>, watched: &[Watched], last: u64) -> Result<u64, NoMemory>
     ensures lines { OnOk result (out.new.items
@@ -44,10 +55,8 @@ fn put_verdicts(out: &mut Vec<u8>, watched: &[Watched], last: u64) -> Result<u64
     let mut failed: u64 = 0;
     for one in watched {
         let verdict = one.verdict(last);
-        if verdict != Verdict::Pass {
-            failed = failed.saturating_add(1);
-        }
         put_verdict(out, one.line, verdict)?;
+        failed = with_failed(failed, verdict);
     }
     Ok(failed)
 }

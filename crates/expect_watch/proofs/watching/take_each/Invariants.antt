@@ -5,6 +5,6 @@ use Rattle.expect_watch.proofs.watching.take_each.Given as goal
 
 abbrev pub invariant-loop-one : goal.invariant-loop-one
 invariant-loop-one l = record {
-  taken : l.one-items ≡ map (noted l.at l.note l.facts l.held) (take l.one-index l.initial.watched.items) ++ drop l.one-index l.initial.watched.items;
+  taken : l.one-items ≡ map (noted l.at l.note l.facts l.held) (take l.one-index l.initial.one-items) ++ drop l.one-index l.initial.one-items;
   fit : AreFit (length l.facts) l.one-items;
 }
