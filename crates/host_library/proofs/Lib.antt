@@ -1,0 +1,3 @@
+pub mod Missing
+pub mod Steps
+pub mod Utf8s
