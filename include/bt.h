@@ -163,7 +163,8 @@ enum {
     BT_NOT_WHOLE = 5,    /* a quotient that is no whole number */
     BT_MIXED = 6,        /* a number where a text must be, or the other way */
     BT_TEXT_TOO_LONG = 7,/* a joined text of more than 4,096 bytes */
-    BT_BAD_PORT = 8      /* a numeric port holds no number of its range; detail: the port */
+    BT_RANGE = 8,        /* the length of an action is not 0 to 10^12 milliseconds */
+    BT_BAD_PORT = 9      /* a numeric port holds no number of its range; detail: the port */
 };
 
 /* The port of BT_BAD_PORT. */

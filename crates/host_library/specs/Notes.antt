@@ -35,7 +35,8 @@ cause_numbers cause.ZeroDivisor = (4, 0)
 cause_numbers cause.NotWhole = (5, 0)
 cause_numbers cause.Mixed = (6, 0)
 cause_numbers cause.TextTooLong = (7, 0)
-cause_numbers (cause.BadPort named) = (8, port_number named)
+cause_numbers cause.Range = (8, 0)
+cause_numbers (cause.BadPort named) = (9, port_number named)
 
 -- a note that names no cause: its kind, runner, node, and the statuses before and after
 abbrev pub plain : ℕ → ℕ → ℕ → ℕ → ℕ → NoteTold

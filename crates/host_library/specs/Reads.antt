@@ -15,7 +15,7 @@ use Rattle.spec_tree.specs.declared.term.PortValue.{PortValue}
 use Rattle.spec_world.specs.declared.world.Fact.{Fact}
 use Rattle.spec_world.specs.declared.world.Row.{Row}
 use Rattle.spec_world.specs.declared.world.RowSort.{RowSort}
-use Rattle.spec_world.specs.declared.world.RowSort.TheVariants.{Is, When, Timed, Replay, Gate, Sensed, Told}
+use Rattle.spec_world.specs.declared.world.RowSort.TheVariants.{Is, When, Timed, TimedBy, Replay, Gate, Sensed, Told}
 use Rattle.spec_world.specs.Worlds.{outs_told}
 use Rattle.host_library.specs.declared.values.Valued.{Valued}
 use Rattle.host_library.specs.Numbers.{kind_number}
@@ -90,6 +90,7 @@ abbrev pub sort_number : RowSort → ℕ
 sort_number (Is fact op value) = 3
 sort_number (When expr) = 3
 sort_number (Timed ms fails) = 4
+sort_number (TimedBy length fails) = 4
 sort_number (Replay ms outcomes) = 4
 sort_number (Gate expr) = 4
 sort_number Sensed = 1

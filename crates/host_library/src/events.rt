@@ -135,7 +135,8 @@ impl Hosted {
         ensures session { self.new.session ≡ self.old.session }
     {
         let bytes = Vec::from_slice(self.alloc, text)?;
-        self.add_out(name, Value::Text(Txt::of(bytes)))
+        let text = Txt::of(bytes)?;
+        self.add_out(name, Value::Text(text))
     }
 
     /// Gives an output a text.

@@ -25,7 +25,10 @@ fn row_number(sort: &RowSort) -> u32
         RowSort::Sensed => 1,
         RowSort::Told { .. } => 2,
         RowSort::Is { .. } | RowSort::When(_) => 3,
-        RowSort::Timed { .. } | RowSort::Replay { .. } | RowSort::Gate(_) => 4,
+        RowSort::Timed { .. }
+        | RowSort::TimedBy { .. }
+        | RowSort::Replay { .. }
+        | RowSort::Gate(_) => 4,
     }
 }
 

@@ -94,7 +94,8 @@ fn cause_numbers(cause: Cause) -> (u32, u32)
         Cause::NotWhole => (5, 0),
         Cause::Mixed => (6, 0),
         Cause::TextTooLong => (7, 0),
-        Cause::BadPort { port } => (8, port_number(port)),
+        Cause::Range => (8, 0),
+        Cause::BadPort { port } => (9, port_number(port)),
     }
 }
 
