@@ -7,7 +7,7 @@ use crate::elements::NONE;
 use crate::output::{quoted, Exit, Refusal};
 use crate::scan::{canonical, Canonical};
 use crate::scripts::{Cause, Cells, Code, Setting, Stacks, Stop, Value};
-use crate::world::{Event, Row, Sort, What, World, PORTS};
+use crate::world::{Event, Row, Sort, What, World, LATEST, PORTS};
 use std::rc::Rc;
 
 /// What a node keeps between visits.
@@ -179,6 +179,8 @@ enum Memo {
 pub struct Instance {
     pub is_held: bool,
     pub since: u64,
+    /// How long an action is held whose length is an expression.
+    pub length: u64,
     pub completions: u8,
     /// The telling that it was told last, and whether it is of success.
     pub told: Option<(u32, bool)>,
@@ -1008,8 +1010,9 @@ pub fn ask(row: &Row, instance: &mut Instance, now: u64, mut number: impl FnMut(
         Sort::When(test) if number(*test)? != 0 => Answer::Success,
         Sort::When(_) => Answer::Failure,
         Sort::Timed { length, .. } | Sort::Replay { length, .. } if now - instance.since < *length => Answer::Running,
-        Sort::Timed { fails: Some(test), .. } if number(*test)? != 0 => Answer::Failure,
-        Sort::Timed { .. } => Answer::Success,
+        Sort::TimedBy { length, .. } if now - instance.since < lasting(instance, *length, &mut number)? => Answer::Running,
+        Sort::Timed { fails: Some(test), .. } | Sort::TimedBy { fails: Some(test), .. } if number(*test)? != 0 => Answer::Failure,
+        Sort::Timed { .. } | Sort::TimedBy { .. } => Answer::Success,
         Sort::Replay { outcomes, .. } => {
             let letter = usize::from(instance.completions).min(outcomes.len() - 1);
             instance.completions = (instance.completions + 1).min(64);
@@ -1029,6 +1032,18 @@ pub fn ask(row: &Row, instance: &mut Instance, now: u64, mut number: impl FnMut(
             Some((_, false)) => Answer::Failure,
         },
     })
+}
+
+/// How long an action lasts whose length is an expression: what it gives where the action begins.
+fn lasting(instance: &mut Instance, length: Code, number: &mut impl FnMut(Code) -> Result<i64, Cause>) -> Result<u64, Cause> {
+    if !instance.is_held {
+        let found = number(length)?;
+        if !(0..=LATEST).contains(&found) {
+            return Err(Cause::Range);
+        }
+        instance.length = found as u64;
+    }
+    Ok(instance.length)
 }
 
 /// What the effects of a row make of their facts.

@@ -67,6 +67,7 @@ pub fn plain_cause(cause: Cause) -> &'static str {
         Cause::NotWhole => "NotWhole",
         Cause::Mixed => "Mixed",
         Cause::TextTooLong => "TextTooLong",
+        Cause::Range => "Range",
         Cause::BadPort(_) => "BadPort",
     }
 }

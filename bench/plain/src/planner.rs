@@ -118,6 +118,8 @@ struct Run<'w> {
     /// The sequence whose action is held, and since when.
     held: u32,
     since: u64,
+    /// How long it lasts where its length is an expression.
+    length: u64,
     /// How often the action of each sequence has completed.
     completions: Vec<u8>,
     /// What failed in this tick, from left to right.
@@ -134,10 +136,10 @@ impl<'w> Run<'w> {
         let mut opening: Vec<i64> = world.facts.iter().map(|it| it.opening).collect();
         opening.push(0);
         let facts = opening.clone();
-        let (held, since, now, missing) = (NONE, 0, 0, 0);
+        let (held, since, length, now, missing) = (NONE, 0, 0, 0, 0);
         let fault = (NONE, Cause::Overflow);
         let (completions, failed, stacks) = (Vec::new(), Vec::new(), Stacks::new());
-        Run { world, opening, facts, now, held, since, completions, failed, fault, missing, stacks }
+        Run { world, opening, facts, now, held, since, length, completions, failed, fault, missing, stacks }
     }
 
     /// Runs a tree from the beginning: how the plan ends with it, or none where the tree failed.
@@ -212,8 +214,9 @@ impl<'w> Run<'w> {
     fn call(&mut self, sequence: &Sequence, at: u32) -> Result<Answer, Cause> {
         let world = self.world;
         let row = &world.rows[sequence.action as usize];
-        let since = if self.held == at { self.since } else { self.now };
-        let mut instance = Instance { is_held: false, since, completions: self.completions[at as usize], told: None };
+        let is_held = self.held == at;
+        let since = if is_held { self.since } else { self.now };
+        let mut instance = Instance { is_held, since, length: self.length, completions: self.completions[at as usize], told: None };
         let mut number = |code: Code| {
             let fact = |name: u32| Ok(self.facts[(name - PORTS) as usize]);
             world.codes.number(code, fact, &mut self.stacks)
@@ -229,7 +232,7 @@ impl<'w> Run<'w> {
             }
         }
         if answer == Answer::Running {
-            (self.held, self.since) = (at, since);
+            (self.held, self.since, self.length) = (at, since, instance.length);
         }
         self.completions[at as usize] = instance.completions;
         Ok(answer)

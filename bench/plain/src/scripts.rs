@@ -38,6 +38,8 @@ pub enum Cause {
     Mixed,
     /// A text of too many bytes.
     TextTooLong,
+    /// A length of an action that is negative or too long.
+    Range,
     /// The key of this port has no number that the port takes.
     BadPort(Setting),
 }

@@ -17,7 +17,8 @@ const MOST_EVENTS: usize = 100_000;
 const MOST_RUNNERS: i64 = 16;
 const LONGEST_NAME: usize = 64;
 const LONGEST_OUTCOMES: usize = 64;
-const LATEST: i64 = 1_000_000_000_000;
+/// The latest moment, and the longest that an action lasts.
+pub const LATEST: i64 = 1_000_000_000_000;
 const LONGEST_TEXT: usize = 4_096;
 /// In expressions the names below are input ports of the row, and the others facts.
 pub const PORTS: u32 = MOST_PORTS as u32;
@@ -36,6 +37,7 @@ pub enum Sort<'w> {
     Is { fact: u32, comparison: Comparison, value: i64 },
     When(Code),
     Timed { length: u64, fails: Option<Code> },
+    TimedBy { length: Code, fails: Option<Code> },
     Replay { length: u64, outcomes: &'w [u8] },
     Gate(Code),
     Sensed,
@@ -530,6 +532,13 @@ impl<'w> Reader<'w> {
     fn action(&mut self, mut words: Words<'w>) -> Answer<()> {
         let head = head(words.next()?)?;
         match words.next()? {
+            b"timed" if words.rest.starts_with(b"(") => {
+                let length = self.expression(words.rest, &head.ports)?;
+                must(is_group(words.rest), Wrong::BadLine)?;
+                self.must_be_new(&head)?;
+                let sort = Sort::TimedBy { length: length.known()?, fails: None };
+                self.row(head, sort)
+            }
             b"timed" => {
                 let length = words.number()?;
                 words.end()?;
@@ -591,7 +600,7 @@ impl<'w> Reader<'w> {
     }
 
     fn fails(&mut self, row: &mut Row<'w>, text: &'w [u8]) -> Answer<()> {
-        let Sort::Timed { fails, .. } = &mut row.sort else {
+        let (Sort::Timed { fails, .. } | Sort::TimedBy { fails, .. }) = &mut row.sort else {
             return Err(Wrong::BadLine);
         };
         let test = self.expression(text, &row.ports)?;
@@ -654,6 +663,16 @@ impl<'w> Reader<'w> {
         let code = self.world.codes.read(text, Form::Expression, &mut number_of).map_err(|_| Wrong::BadLine)?;
         Ok(Expression { code, is_known })
     }
+}
+
+/// Whether an expression stands in parentheses: the first one ends with the text.
+fn is_group(text: &[u8]) -> bool {
+    let mut open = 0;
+    let end = text.iter().position(|byte| {
+        open += i32::from(*byte == b'(') - i32::from(*byte == b')');
+        open == 0
+    });
+    end.is_some_and(|place| text[place + 1..].iter().all(|&it| is_blank(it)))
 }
 
 /// Reads an output of an action that is told how it ended: its name alone.

@@ -13,7 +13,7 @@ use Rattle.spec_run.specs.declared.status.Status.{Status}
 use Rattle.spec_run.specs.declared.status.Status.TheVariants as status
 use Rattle.spec_world.specs.declared.world.Telling.{Telling}
 use Rattle.spec_world.specs.declared.world.Telling.TheVariants as telling
-use Rattle.spec_run.specs.Leaf.{Rule, Way, Tests, Lasts, Replays, Waits, Heeds, Obeys, answer_by, asked, is_told_way, keeping, sensed, start_of, started_with, told_end}
+use Rattle.spec_run.specs.Leaf.{Rule, Way, Tests, Lasts, LastsBy, Replays, Waits, Heeds, Obeys, answer_by, asked, is_told_way, keeping, sensed, start_of, started_with, told_end}
 use Rattle.spec_run.specs.Leaves.{phase_of}
 use Rattle.base_tables.specs.DriverCalls.{kind_of_way}
 
@@ -60,6 +60,7 @@ told_kind Heeds told = refl
 told_kind Obeys told = refl
 told_kind (Tests test) told = absurd (cc)
 told_kind (Lasts ms fails) told = absurd (cc)
+told_kind (LastsBy length fails) told = absurd (cc)
 told_kind (Replays ms outcomes) told = absurd (cc)
 told_kind (Waits test) told = absurd (cc)
 
@@ -85,6 +86,7 @@ pub deaf_where_broken : (way : Way) (rule : Rule) (since : ℕ) (i : Instance) (
     (answer_by way rule since i inputs facts now).reply ≡ Broken cause → is_told_way way ≡ false
 deaf_where_broken (Tests test) rule since i inputs facts now cause broken = refl
 deaf_where_broken (Lasts ms fails) rule since i inputs facts now cause broken = refl
+deaf_where_broken (LastsBy length fails) rule since i inputs facts now cause broken = refl
 deaf_where_broken (Replays ms outcomes) rule since i inputs facts now cause broken = refl
 deaf_where_broken (Waits test) rule since i inputs facts now cause broken = refl
 deaf_where_broken Heeds rule since i inputs facts now cause broken = absurd (sensed_answers i.told cause broken)

@@ -16,7 +16,7 @@ use Rattle.spec_world.specs.declared.world.Set.{Set}
 use Rattle.spec_world.specs.declared.world.Telling.{Telling}
 use Rattle.spec_world.specs.declared.world.Telling.TheVariants as telling
 use Rattle.spec_world.specs.declared.world.ToldOut.{ToldOut}
-use Rattle.spec_run.specs.Leaf.{Answered, Rule, Test, Way, Tests, Lasts, Replays, Waits, Heeds, Obeys, answer_by, completed, completion, decided, effects_of, fact_at, finished, held, judged, lasting, leaf_rule, released, made_by, outcome_at, outputs_of, replied, rule_answer, rule_of, sensed, start_of, timed_end, told_end, unheld, way_of}
+use Rattle.spec_run.specs.Leaf.{Answered, Rule, Test, Way, Tests, Lasts, LastsBy, Replays, Waits, Heeds, Obeys, answer_by, completed, completion, decided, effects_of, fact_at, finished, held, judged, lasting, lasting_for, leaf_rule, length_of, measured, released, made_by, outcome_at, outputs_of, replied, rule_answer, rule_of, sensed, start_of, timed_end, told_end, unheld, way_of}
 use Rattle.base_tables.specs.Outputs.{since_after}
 use Rattle.base_tables.specs.Shapes.{Lasts as SortLasts}
 
@@ -61,8 +61,9 @@ module _ (way : Way) (rule : Rule) (since : ℕ) (instance : Instance) (inputs :
       Kept (record { reply = Success; instance = after; facts = facts; outputs = []; told = told })
   succeeded_keeps told after free = record { held_while_running = free; as_many = refl; lasts = λ e. cc; breaks = λ c e. cc }
 
-  running_keeps : WayLasts way → Kept (replied Running (held since instance) facts)
-  running_keeps lasts = record { held_while_running = refl; as_many = refl; lasts = λ e. lasts; breaks = λ c e. cc }
+  -- held as any instance
+  running_keeps : WayLasts way → (left : Instance) → Kept (replied Running (held since left) facts)
+  running_keeps lasts left = record { held_while_running = refl; as_many = refl; lasts = λ e. lasts; breaks = λ c e. cc }
 
   finished_keeps : (outputs effects : Result (List ℤ) Cause) (after : Instance) → AsMany facts effects → after.since ≡ None →
       Kept (finished (outputs >>= λ outputs. effects >>= λ left. Ok (outputs, left)) instance after facts)
@@ -83,12 +84,17 @@ module _ (way : Way) (rule : Rule) (since : ℕ) (instance : Instance) (inputs :
   timed_keeps (Some fails) =
       judged_keeps (fails inputs facts) (λ b. decided (not b) rule instance (released instance) inputs facts) (λ b. decided_keeps (not b) (released instance) refl)
 
-  lasting_keeps : WayLasts way → (ms now : ℕ) (ending : Answered) → Kept ending → Kept (lasting since ms now instance facts ending)
-  lasting_keeps lasts ms now ending keeps =
-      elim (nat_lt (now - since) ms) as (λ b. Kept (if b then replied Running (held since instance) facts else ending)) [
-        | true ↦ running_keeps lasts
+  lasting_keeps : WayLasts way → (ms now : ℕ) (left : Instance) (ending : Answered) → Kept ending → Kept (lasting since ms now left facts ending)
+  lasting_keeps lasts ms now left ending keeps =
+      elim (nat_lt (now - since) ms) as (λ b. Kept (if b then replied Running (held since left) facts else ending)) [
+        | true ↦ running_keeps lasts left
         | false ↦ keeps
       ]
+
+  measured_keeps : WayLasts way → (length : Result ℕ Cause) (now : ℕ) (ending : Answered) → Kept ending →
+      Kept (measured length instance facts (λ ms. lasting since ms now (lasting_for ms instance) facts ending))
+  measured_keeps lasts (Ok ms) now ending keeps = lasting_keeps lasts ms now (lasting_for ms instance) ending keeps
+  measured_keeps lasts (Err cause) now ending keeps = broken_keeps cause
 
   tested_keeps : (b : Bool) → Kept (replied (if b then Success else Failure) (released instance) facts)
   tested_keeps true = succeeded_keeps [] (released instance) refl
@@ -96,7 +102,7 @@ module _ (way : Way) (rule : Rule) (since : ℕ) (instance : Instance) (inputs :
 
   awaited_keeps : WayLasts way → (b : Bool) → Kept (if b then completion rule instance (released instance) inputs facts else replied Running (held since instance) facts)
   awaited_keeps lasts true = decided_keeps true (released instance) refl
-  awaited_keeps lasts false = running_keeps lasts
+  awaited_keeps lasts false = running_keeps lasts instance
 
   sensed_keeps : (o : Option Telling) → Kept (replied (sensed o) (unheld instance) facts)
   sensed_keeps (Some (telling.Success outs)) = succeeded_keeps [] (unheld instance) refl
@@ -106,15 +112,18 @@ module _ (way : Way) (rule : Rule) (since : ℕ) (instance : Instance) (inputs :
   obeyed_keeps : WayLasts way → (o : Option Telling) → Kept (told_end o since instance facts)
   obeyed_keeps lasts (Some (telling.Success outs)) = succeeded_keeps outs (released instance) refl
   obeyed_keeps lasts (Some telling.Failure) = failed_keeps (released instance) refl
-  obeyed_keeps lasts None = running_keeps lasts
+  obeyed_keeps lasts None = running_keeps lasts instance
 
 answer_keeps : (way : Way) (rule : Rule) (since : ℕ) (instance : Instance) (inputs : List Seen) (facts : List ℤ) (now : ℕ) → Keeps way since instance facts (answer_by way rule since instance inputs facts now)
 answer_keeps (Tests test) rule since instance inputs facts now =
     judged_keeps (Tests test) rule since instance inputs facts (test inputs facts) (λ b. replied (if b then Success else Failure) (released instance) facts) (tested_keeps (Tests test) rule since instance inputs facts)
 answer_keeps (Lasts ms fails) rule since instance inputs facts now =
-    lasting_keeps (Lasts ms fails) rule since instance inputs facts tt ms now (timed_end fails rule instance inputs facts) (timed_keeps (Lasts ms fails) rule since instance inputs facts fails)
+    lasting_keeps (Lasts ms fails) rule since instance inputs facts tt ms now instance (timed_end fails rule instance inputs facts) (timed_keeps (Lasts ms fails) rule since instance inputs facts fails)
+answer_keeps (LastsBy length fails) rule since instance inputs facts now =
+    measured_keeps (LastsBy length fails) rule since instance inputs facts tt (length_of length instance inputs facts) now (timed_end fails rule instance inputs facts)
+    (timed_keeps (LastsBy length fails) rule since instance inputs facts fails)
 answer_keeps (Replays ms outcomes) rule since instance inputs facts now =
-    lasting_keeps (Replays ms outcomes) rule since instance inputs facts tt ms now (decided (outcome_at outcomes instance.completions) rule instance (completed instance) inputs facts)
+    lasting_keeps (Replays ms outcomes) rule since instance inputs facts tt ms now instance (decided (outcome_at outcomes instance.completions) rule instance (completed instance) inputs facts)
     (decided_keeps (Replays ms outcomes) rule since instance inputs facts (outcome_at outcomes instance.completions) (completed instance) refl)
 answer_keeps (Waits test) rule since instance inputs facts now =
     judged_keeps (Waits test) rule since instance inputs facts (test inputs facts) (λ b. if b then completion rule instance (released instance) inputs facts else replied Running (held since instance) facts)
@@ -139,6 +148,7 @@ as_many_facts rule phase instance inputs facts now = (call_keeps rule phase inst
 
 sort_lasts : (places : List ℕ → ℕ) (s : RowSort) → WayLasts (way_of places s) → SortLasts s
 sort_lasts places (sort.Timed ms fails) lasts = tt
+sort_lasts places (sort.TimedBy length fails) lasts = tt
 sort_lasts places (sort.Replay ms outcomes) lasts = tt
 sort_lasts places (sort.Gate test) lasts = tt
 sort_lasts places (sort.Told outs) lasts = tt

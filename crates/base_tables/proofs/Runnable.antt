@@ -11,7 +11,7 @@ use Rattle.spec_tree.specs.Trees.{IdFits, IsValid, Node, NodeFits, nodes_of}
 use Rattle.spec_world.specs.declared.world.Fact.{Fact}
 use Rattle.spec_world.specs.declared.world.Row.{Row}
 use Rattle.spec_world.specs.declared.world.RowSort.{RowSort}
-use Rattle.spec_world.specs.declared.world.RowSort.TheVariants.{Is, When, Timed, Replay, Gate, Sensed, Told}
+use Rattle.spec_world.specs.declared.world.RowSort.TheVariants.{Is, When, Timed, TimedBy, Replay, Gate, Sensed, Told}
 use Rattle.spec_world.specs.declared.world.World.{World}
 use Rattle.spec_world.specs.Runnable.{AreTexts, IsRunnableRow, IsRunnableSort, IsRunnableWorld, most_ports_of}
 use Rattle.spec_world.specs.Worlds.{AreNames, IsValidRow, IsValidSort, IsValidWorld}
@@ -67,6 +67,7 @@ ports_run (Told outs) = lit≤ tt
 ports_run (Is fact op value) = lit≤ tt
 ports_run (When e) = lit≤ tt
 ports_run (Timed ms fails) = lit≤ tt
+ports_run (TimedBy length fails) = lit≤ tt
 ports_run (Replay ms outcomes) = lit≤ tt
 ports_run (Gate e) = lit≤ tt
 ports_run Sensed = lit≤ tt
@@ -76,6 +77,7 @@ sort_runs facts ports (Told outs) valid = names_are_texts 8 64 outs (lit≤ tt) 
 sort_runs facts ports (Is fact op value) valid = valid
 sort_runs facts ports (When e) valid = valid
 sort_runs facts ports (Timed ms fails) valid = valid
+sort_runs facts ports (TimedBy length fails) valid = valid
 sort_runs facts ports (Replay ms outcomes) valid = valid
 sort_runs facts ports (Gate e) valid = valid
 sort_runs facts ports Sensed valid = valid

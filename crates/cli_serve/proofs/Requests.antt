@@ -1,7 +1,7 @@
 -- What the lines of a host ask, by the lines of a world script.
 use Rattle.std.proofs.Common.{◌≡◌, ◌∙◌, ◌+◌, ◌≤◌, ℕ, nat_eq, Bool, true, false, ◌&&◌, ◌||◌, cond, if◌then◌else◌, List, [], ◌∷◌, ◌++◌, length, take, MatchBool, Option, Some, None, Result, Ok, Err, refl, sym, ap, subst, arith, length-append}
 use Rattle.std.specs.Prelude.{ℤ, codes, nat_abs, nat_le, nat_lt, not, option_and_then, option_map, suc}
-use Rattle.std.specs.List.{list_all, list_any, prefix_len}
+use Rattle.std.specs.List.{list_all, list_any, prefix_len, starts_with}
 use Rattle.std.specs.Str.{bytes_eq}
 use Rattle.std.proofs.lemmas.Bool.Decides.{nat_tests}
 use Rattle.std.proofs.lemmas.Slice.Eq.{bytes_eq-Decides}
@@ -18,7 +18,7 @@ use Rattle.spec_world.specs.declared.world.What.TheVariants.{Change, Halt, Tell,
 use Rattle.spec_world.specs.Worlds.{is_name, ports_told}
 use Rattle.spec_world_file.specs.declared.world_fault.WorldKind.{WorldKind}
 use Rattle.spec_world_file.specs.declared.world_fault.WorldKind.TheVariants.{BadLine, DoubleName, MomentBack, TooMany}
-use Rattle.spec_world_file.specs.WorldFile.{AfterForm, AfterLine, AfterText, AtLine, EveryLine, FactLine, FailsLine, GateLine, GoalLine, HaltLine, Head, IsLine, Line, NameLine, NeedsLine, OutLine, Reading, ReplayLine, RunnersLine, SensedLine, SetLine, SetsLine, TellLine, TickLine, TimedLine, ToldLine, WhenLine, action_line, by_outs, closed, comparison_in, condition_line, content, ends_after, event_line, every_line, fact_number, following, front_word, head_in, how_in, is_gap, is_ignored, is_line, is_line_byte, is_long, is_ms, is_runner, is_small, is_uid, line_by, line_in, name_line, named_number, number_line, numbered, out_line, outcomes_in, parts_in, ranged, repeats, replay_line, runners_of, sets_line, success_in, tell_line, telling_of, timed_line, told_line, with_event, with_moment, with_telling, word, words_in}
+use Rattle.spec_world_file.specs.WorldFile.{AfterForm, AfterLine, AfterText, AtLine, EveryLine, FactLine, FailsLine, GateLine, GoalLine, HaltLine, Head, IsLine, Line, NameLine, NeedsLine, OutLine, Reading, ReplayLine, RunnersLine, SensedLine, SetLine, SetsLine, TellLine, TickLine, TimedByLine, TimedLine, ToldLine, WhenLine, action_line, by_outs, closed, comparison_in, condition_line, content, ends_after, event_line, every_line, fact_number, following, front_word, head_in, how_in, is_gap, is_ignored, is_line, is_line_byte, is_long, is_ms, is_runner, is_small, is_uid, line_by, line_in, name_line, named_number, number_line, numbered, out_line, outcomes_in, parts_in, ranged, repeats, replay_line, runners_of, sets_line, success_in, tell_line, telling_of, timed_line, told_line, with_event, with_moment, with_telling, word, words_in}
 
 same_bytes : (x y : List ℕ) → bytes_eq x y ≡ true → x ≡ y
 same_bytes x y tie = (bytes_eq-Decides x y).0 tie
@@ -82,10 +82,14 @@ no_replay text head =
     (then_no (λ ms. option_map (ReplayLine head ms) (outcomes_in (word 1 text))) (number_in (word 0 text))
     (λ ms. mapped_no (ReplayLine head ms) (outcomes_in (word 1 text)) (λ outcomes. refl))) refl
 
+no_timed : (text : List ℕ) (head : Head) → only_asked (timed_line text head) ≡ None
+no_timed text head =
+    if_no (starts_with nat_eq text (codes "(")) (Some (TimedByLine head text)) (number_line (TimedLine head) text) refl (no_number (TimedLine head) text (λ n. refl))
+
 no_action : (text : List ℕ) → only_asked (action_line text) ≡ None
 no_action text =
     if_no (bytes_eq (word 1 text) (codes "timed")) (option_and_then (timed_line (following 2 text)) (head_in (word 0 text))) _
-    (then_no (timed_line (following 2 text)) (head_in (word 0 text)) (λ head. no_number (TimedLine head) (following 2 text) (λ n. refl)))
+    (then_no (timed_line (following 2 text)) (head_in (word 0 text)) (λ head. no_timed (following 2 text) head))
     (if_no (bytes_eq (word 1 text) (codes "replay")) (option_and_then (replay_line (following 2 text)) (head_in (word 0 text))) _
     (then_no (replay_line (following 2 text)) (head_in (word 0 text)) (no_replay (following 2 text)))
     (if_no (bytes_eq (word 1 text) (codes "gate")) (option_map (λ head. GateLine head (following 2 text)) (head_in (word 0 text))) _

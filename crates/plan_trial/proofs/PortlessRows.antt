@@ -1,6 +1,6 @@
 -- A call of a row without input ports ends in no fault whose cause has a name in it.
 use Rattle.std.proofs.Common.{◌≡◌, ℕ, zero, suc, ◌+◌, ◌-◌, ℤ, ◌+ℤ◌, Bool, true, false, not, nat_lt, if◌then◌else◌, List, [], ◌∷◌, ◌++◌, length, map, Option, Some, None, Result, Ok, Err, IfSome, refl, sym, subst, ◌∙◌, arith, append_assoc}
-use Rattle.std.specs.Prelude.{slice_index_or, pos, negsuc, nat_le, int_le, int_div, int_rem, neg_ℤ, ◌-ℤ◌, ◌*ℤ◌, ◌&&◌, ◌^◌}
+use Rattle.std.specs.Prelude.{is_some, nat_abs, slice_index_or, unwrap_or, pos, negsuc, nat_le, int_le, int_div, int_rem, neg_ℤ, ◌-ℤ◌, ◌*ℤ◌, ◌&&◌, ◌^◌}
 use Rattle.std.specs.List.{All, Contains}
 use Rattle.std.specs.Ordering.{int_eq}
 use Rattle.std.specs.Result.{IfErr}
@@ -28,22 +28,24 @@ use Rattle.spec_script.specs.Operators.{binary_on, both, bounded, chosen, combin
 use Rattle.base_texts.specs.Results.{◌>>=◌}
 use Rattle.spec_script.specs.Scripts.{names_of, names_step}
 use Rattle.spec_run.specs.declared.fault.Cause.{Cause}
-use Rattle.spec_run.specs.declared.fault.Cause.TheVariants.{NoEntry, NoInput}
+use Rattle.spec_run.specs.declared.fault.Cause.TheVariants.{NoEntry, NoInput, Range}
 use Rattle.spec_run.specs.declared.leaf.Instance.{Instance}
 use Rattle.spec_run.specs.declared.leaf.Phase.{Phase}
 use Rattle.spec_run.specs.declared.leaf.Reply.{Reply}
 use Rattle.spec_run.specs.declared.leaf.Reply.TheVariants.{Running, Success, Failure, Broken}
+use Rattle.spec_tree.specs.Limits.{last_moment}
+use Rattle.spec_tree.specs.Numbers.{in_range}
 use Rattle.spec_world.specs.declared.world.Fact.{Fact}
 use Rattle.spec_world.specs.declared.world.How.{How}
 use Rattle.spec_world.specs.declared.world.How.TheVariants.{To, By}
 use Rattle.spec_world.specs.declared.world.Out.{Out}
 use Rattle.spec_world.specs.declared.world.Row.{Row}
 use Rattle.spec_world.specs.declared.world.RowSort.{RowSort}
-use Rattle.spec_world.specs.declared.world.RowSort.TheVariants.{Is, When, Timed, Replay, Gate, Sensed, Told}
+use Rattle.spec_world.specs.declared.world.RowSort.TheVariants.{Is, When, Timed, TimedBy, Replay, Gate, Sensed, Told}
 use Rattle.spec_world.specs.declared.world.Set.{Set}
 use Rattle.spec_world.specs.declared.world.Telling.{Telling}
 use Rattle.spec_world.specs.declared.world.Telling.TheVariants as telling
-use Rattle.spec_run.specs.Leaf.{Answered, Rule, Test, Way, Tests, Lasts, Replays, Waits, Heeds, Obeys, answer_by, as_number, cause_of, caused, completed, completion, decided, effects_of, fact_at, finished, held, judged, leaf_rule, made_by, number_of, outcome_at, outputs_of, padded, place_from, place_of, released, replied, rule_answer, sights, rule_by, sensed, start_of, test_of, timed_end, told_end, truth_of, way_of, with_output, worked_out}
+use Rattle.spec_run.specs.Leaf.{Answered, Rule, Test, Way, Tests, Lasts, LastsBy, Replays, Waits, Heeds, Obeys, answer_by, as_length, as_number, cause_of, caused, completed, completion, decided, effects_of, fact_at, finished, held, judged, lasting_for, leaf_rule, length_of, made_by, measured, number_of, outcome_at, outputs_of, padded, place_from, place_of, released, replied, rule_answer, sights, rule_by, sensed, start_of, test_of, timed_end, told_end, truth_of, way_of, with_output, worked_out}
 use Rattle.spec_world.specs.Worlds.{IsExprOver, IsValidRow, IsValidSort, names_of_facts}
 use Rattle.run_driver.proofs.Parts.{All-left, All-right}
 
@@ -253,10 +255,20 @@ module _ (names : List Fact) (facts : List ℤ) (many : length facts ≡ length 
   judged_there (Ok b) there instance go goes = goes b
   judged_there (Err cause) there instance go goes = there
 
+  measured_there : (r : Result ℕ Cause) → NoName r → (instance : Instance) (go : ℕ → Answered) → ((ms : ℕ) → ReplyThere (go ms).reply) → ReplyThere (measured r instance facts go).reply
+  measured_there (Ok ms) there instance go goes = goes ms
+  measured_there (Err cause) there instance go goes = there
+
+  length_there : (r : Result ℤ Cause) → NoName r → (b : Bool) (kept : ℕ) → NoName (if b then Ok kept else as_length r)
+  length_there r there true kept = tt
+  length_there (Err cause) there false kept = there
+  length_there (Ok n) there false kept = cond_both (in_range (pos 0) (pos last_moment) n) (Ok (nat_abs n)) (Err Range) (λ (l : Result ℕ Cause). NoName l) (λ _. tt) (λ _. tt)
+
   -- what is looked at by a way to answer is there
   abbrev WayThere : Way → Type 0
   WayThere (Tests test) = NoName (test [] facts)
   WayThere (Lasts ms fails) = IfSome fails (λ test. NoName (test [] facts))
+  WayThere (LastsBy length fails) = NoName (length [] facts) × IfSome fails (λ test. NoName (test [] facts))
   WayThere (Replays ms outcomes) = Unit {0}
   WayThere (Waits test) = NoName (test [] facts)
   WayThere Heeds = Unit {0}
@@ -298,6 +310,9 @@ module _ (names : List Fact) (facts : List ℤ) (many : length facts ≡ length 
     answer_there : (way : Way) → WayThere way → (since now : ℕ) → ReplyThere (answer_by way rule since instance [] facts now).reply
     answer_there (Tests test) there since now = judged_there (test [] facts) there instance _ tested_there
     answer_there (Lasts ms fails) there since now = either_reply (nat_lt (now - since) ms) (replied Running (held since instance) facts) (timed_end fails rule instance [] facts) tt (timed_there fails there)
+    answer_there (LastsBy length fails) there since now =
+        measured_there (length_of length instance [] facts) (length_there (length [] facts) there.0 (is_some instance.since) (unwrap_or instance.length 0)) instance _
+        (λ ms. either_reply (nat_lt (now - since) ms) (replied Running (held since (lasting_for ms instance)) facts) (timed_end fails rule instance [] facts) tt (timed_there fails there.1))
     answer_there (Replays ms outcomes) there since now =
         let b : Bool = outcome_at outcomes instance.completions in
         either_reply (nat_lt (now - since) ms) (replied Running (held since instance) facts) (decided b rule instance (completed instance) [] facts) tt (decided_there b (completed instance))
@@ -311,6 +326,8 @@ module _ (names : List Fact) (facts : List ℤ) (many : length facts ≡ length 
   way_there (When e) valid = test_there e valid
   way_there (Timed ms None) valid = tt
   way_there (Timed ms (Some e)) valid = test_there e valid.1
+  way_there (TimedBy e None) valid = (number_there e valid.0, tt)
+  way_there (TimedBy e (Some fails)) valid = (number_there e valid.0, test_there fails valid.1)
   way_there (Replay ms outcomes) valid = tt
   way_there (Gate e) valid = test_there e valid
   way_there Sensed valid = tt

@@ -7,7 +7,7 @@ use Rattle.std.proofs.lemmas.Option.{slice_get_cases}
 use Rattle.spec_world.specs.declared.world.Fact.{Fact}
 use Rattle.spec_world.specs.declared.world.Row.{Row}
 use Rattle.spec_world.specs.declared.world.RowSort.{RowSort}
-use Rattle.spec_world.specs.declared.world.RowSort.TheVariants.{Is, When, Timed, Replay, Gate, Sensed, Told}
+use Rattle.spec_world.specs.declared.world.RowSort.TheVariants.{Is, When, Timed, TimedBy, Replay, Gate, Sensed, Told}
 use Rattle.spec_world.specs.declared.world.World.{World}
 use Rattle.spec_world.specs.Worlds.{IsComparisonIn, IsValidRow, IsValidSort, IsValidWorld, is_comparison}
 use Rattle.spec_plan.specs.declared.domain.Test.{Test}
@@ -30,6 +30,7 @@ module _ (facts : List Fact) (ports : List (List ℕ)) where
   by_sort (Is fact op value) is valid = record { test = record { fact = fact; op = op; value = value }; is = refl; within = valid.0 }
   by_sort (When e) is valid = cc is
   by_sort (Timed ms fails) is valid = cc is
+  by_sort (TimedBy length fails) is valid = cc is
   by_sort (Replay ms outcomes) is valid = cc is
   by_sort (Gate e) is valid = cc is
   by_sort Sensed is valid = cc is

@@ -1,6 +1,6 @@
 -- Inputs after the last port may be left out.
 use Rattle.std.proofs.Common.{◌≡◌, ℕ, ◌-◌, ℤ, List, [], ◌∷◌, ◌++◌, length, map, replicate, not, if◌then◌else◌, Bool, true, false, Option, Some, None, Ok, refl, ap, ◌∙◌, arith, length-append}
-use Rattle.std.specs.Prelude.{option_map}
+use Rattle.std.specs.Prelude.{is_some, option_map, unwrap_or}
 use Rattle.std.proofs.lemmas.List.{append-nil, length-replicate}
 use Rattle.spec_script.specs.declared.cells.Seen.{Seen}
 use Rattle.spec_script.specs.declared.cells.Seen.TheVariants as seen
@@ -16,7 +16,7 @@ use Rattle.spec_world.specs.declared.world.Out.{Out}
 use Rattle.spec_world.specs.declared.world.Row.{Row}
 use Rattle.spec_world.specs.declared.world.RowSort.{RowSort}
 use Rattle.spec_world.specs.declared.world.RowSort.TheVariants as sort
-use Rattle.spec_run.specs.Leaf.{answer_by, as_number, completed, completion, decided, effects_of, finished, held, judged, lasting, leaf_rule, released, number_of, outcome_at, outputs_of, padded, place_of, replied, rule_by, sights, start_of, test_of, timed_end, truth_of, way_of, with_output}
+use Rattle.spec_run.specs.Leaf.{answer_by, as_length, as_number, completed, completion, decided, effects_of, finished, held, judged, lasting, lasting_for, leaf_rule, measured, released, number_of, outcome_at, outputs_of, padded, place_of, replied, rule_by, sights, start_of, test_of, timed_end, truth_of, way_of, with_output}
 
 no_more : (inputs : List Seen) (n : ℕ) → n ≡ 0 → inputs ++ replicate n seen.Absent ≡ inputs
 no_more inputs n none = ap (λ k. inputs ++ replicate k seen.Absent) none ∙ append-nil inputs
@@ -63,6 +63,9 @@ module _ (places : List ℕ → ℕ) (inputs : List Seen) (facts : List ℤ) whe
     same_answer (sort.Is fact op value) = refl
     same_answer (sort.When test) = λ i. judged (same_test test i) instance facts (λ b. replied (if b then Success else Failure) (released instance) facts)
     same_answer (sort.Timed ms fails) = λ i. lasting since ms now instance facts (same_timed_end fails i)
+    same_answer (sort.TimedBy length fails) = λ i.
+        measured (if is_some instance.since then Ok (unwrap_or instance.length 0) else as_length (same_number length i)) instance facts
+        (λ ms. lasting since ms now (lasting_for ms instance) facts (same_timed_end fails i))
     same_answer (sort.Replay ms outcomes) = λ i.
         lasting since ms now instance facts (same_decided (outcome_at outcomes instance.completions) (completed instance) i)
     same_answer (sort.Gate test) = λ i.

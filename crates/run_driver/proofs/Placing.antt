@@ -78,6 +78,7 @@ pub same_kind_of_row : (places : List ℕ → ℕ) (s : RowSort) → kind_of_way
 same_kind_of_row places (sort.Is fact op value) = refl
 same_kind_of_row places (sort.When test) = refl
 same_kind_of_row places (sort.Timed ms fails) = refl
+same_kind_of_row places (sort.TimedBy length fails) = refl
 same_kind_of_row places (sort.Replay ms outcomes) = refl
 same_kind_of_row places (sort.Gate test) = refl
 same_kind_of_row places sort.Sensed = refl

@@ -14,6 +14,7 @@ sort_over : (facts : List Fact) (ports : List (List ℕ)) (s : RowSort) → IsRu
 sort_over facts ports (sort.Is fact op value) can = can.0
 sort_over facts ports (sort.When test) can = can
 sort_over facts ports (sort.Timed ms fails) can = can.1
+sort_over facts ports (sort.TimedBy length fails) can = can
 sort_over facts ports (sort.Replay ms outcomes) can = tt
 sort_over facts ports (sort.Gate test) can = can
 sort_over facts ports sort.Sensed can = tt

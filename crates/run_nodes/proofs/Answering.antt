@@ -48,6 +48,7 @@ told_way places (sort.Told outs) = refl
 told_way places (sort.Is fact op value) = refl
 told_way places (sort.When test) = refl
 told_way places (sort.Timed ms fails) = refl
+told_way places (sort.TimedBy length fails) = refl
 told_way places (sort.Replay ms outcomes) = refl
 told_way places (sort.Gate test) = refl
 

@@ -1,14 +1,12 @@
 -- World scripts: the lines and words of a file, what a line says, and the world that the lines make.
 use Rattle.std.specs.Prelude.{◌≡◌, ℕ, zero, suc, ◌+◌, ◌-◌, ◌*◌, ◌/◌, ◌==◌, IsTrue, Bool, true, false, not, ◌&&◌, ◌||◌, nat_lt, nat_le, nat_eq, if◌then◌else◌, MatchBool, List, [], ◌∷◌, ◌++◌, map, length, take, drop, codes, bytes_eq, ℤ, pos, nat_abs, Option, Some, None, is_some, option_map, option_and_then, option_to_list, unwrap_or, Result, Ok, Err, position, slice_get}
-use Rattle.std.specs.Char.{is_ascii_digit}
 use Rattle.std.specs.List.{slice_split, filter, list_all, list_any, ends_with, starts_with, prefix_len, suffix_len, position_or_len}
 use Rattle.std.specs.Str.{is_utf8}
-use Rattle.std.specs.Str.Parse.{signed_digits_value}
 use Rattle.spec_script.specs.Reading.{ReadsExpr}
 use Rattle.spec_script.specs.declared.syntax.Cmp.{Cmp}
 use Rattle.spec_script.specs.declared.syntax.Cmp.TheVariants.{Equal, Differ, Less, AtMost, More, AtLeast}
-use Rattle.spec_script.specs.declared.syntax.Expr.{Expr}
-use Rattle.spec_script.specs.declared.syntax.Expr.TheVariants.{Group}
+use Rattle.spec_script.specs.declared.syntax.Expr.{Expr, out-Expr}
+use Rattle.spec_script.specs.declared.syntax.Expr.TheOpen.{Expr-F, Group}
 use Rattle.spec_script.specs.Scripts.{names_of, texts_of}
 use Rattle.spec_script.specs.declared.value.Value.{Value}
 use Rattle.spec_script.specs.declared.value.Value.TheVariants.{Int, Text}
@@ -644,9 +642,12 @@ with_telling outs said =
     else said
 
 -- an expression that stands in parentheses
+abbrev pub group_step : Expr-F Expr → Bool
+group_step (Group e) = true
+group_step _ = false
+
 abbrev pub is_group : Expr → Bool
-is_group (Group e) = true
-is_group _ = false
+is_group e = group_step (out-Expr e)
 
 -- the open action where it is modelled, to which lines may add
 abbrev pub where_modelled : Option Row → Option Row

@@ -62,8 +62,8 @@ none_begun runner (c ∷ calls) e = (halted_by c.phase (omega (arith, e)), none_
 releases_by : (uid : ℕ) (since : Option ℕ) (i : Instance) (is : List Instance) → i.since ≡ since → begun_calls (releases (uid + 1) is) ≡ 0 → begun_calls (releases uid (i ∷ is)) ≡ 0
 releases_by uid (Some t) i is e rest =
     let more : 0 + begun_calls (releases (uid + 1) is) ≡ 0 = omega (arith, rest) in
-    ap (λ (o : Option ℕ). begun_calls (releases uid (record { since = o; completions = i.completions; told = i.told; inputs = i.inputs } ∷ is))) e ∙ more
-releases_by uid None i is e rest = ap (λ (o : Option ℕ). begun_calls (releases uid (record { since = o; completions = i.completions; told = i.told; inputs = i.inputs } ∷ is))) e ∙ rest
+    ap (λ (o : Option ℕ). begun_calls (releases uid (record { since = o; completions = i.completions; told = i.told; length = i.length; inputs = i.inputs } ∷ is))) e ∙ more
+releases_by uid None i is e rest = ap (λ (o : Option ℕ). begun_calls (releases uid (record { since = o; completions = i.completions; told = i.told; length = i.length; inputs = i.inputs } ∷ is))) e ∙ rest
 
 releases_begin : (uid : ℕ) (is : List Instance) → begun_calls (releases uid is) ≡ 0
 releases_begin uid [] = refl

@@ -1,17 +1,18 @@
 -- What a call leaves is what the definition says of a line of a row.
 use Rattle.std.proofs.Common.{◌≡◌, ℕ, Bool, true, false, ◌||◌, ◌&&◌, ◌==◌, List, map, length, Option, Some, None, Result, Ok, Err, ℤ, refl, sym, ◌∙◌, ap, subst, if◌then◌else◌}
-use Rattle.std.specs.Prelude.{nat_abs, nat_le, nat_lt, option_map, option_and_then}
-use Rattle.std.specs.List.{list_all}
+use Rattle.std.specs.Prelude.{codes, nat_abs, nat_eq, nat_le, nat_lt, option_map, option_and_then}
+use Rattle.std.specs.List.{list_all, starts_with}
 use Rattle.std.specs.Str.Parse.{signed_digits_value}
 use Rattle.base_texts.specs.declared.stop.Stop.{Stop}
 use Rattle.base_texts.specs.declared.stop.Stop.TheVariants as stop
 use Rattle.spec_script.specs.declared.syntax.Expr.{Expr}
 use Rattle.spec_world.specs.declared.world.Row.{Row}
 use Rattle.spec_world.specs.declared.world.RowSort.{RowSort}
+use Rattle.spec_world.specs.declared.world.RowSort.TheVariants.{TimedBy}
 use Rattle.spec_world.specs.declared.world.What.{What}
 use Rattle.spec_world_file.specs.declared.world_fault.WorldKind.{WorldKind}
 use Rattle.spec_world_file.specs.declared.world_fault.WorldKind.TheVariants.{Header, BadLine, Range, DoubleName, NoName, MomentBack, TooMany}
-use Rattle.spec_world_file.specs.WorldFile.{Line, EveryLine, Part, TimedLine, ReplayLine, AfterForm, AfterLine, Reading, following, ends_after, is_ms, is_runner, is_step, runner_in, runners_of, what_in, with_rounds, outcomes_in, replay_line, timed_line, told_line, with_action, word, ReadsNumeric, SaysOf, closed, ranged, with_head}
+use Rattle.spec_world_file.specs.WorldFile.{Line, EveryLine, Part, TimedLine, TimedByLine, ReplayLine, AfterForm, AfterLine, Reading, following, ends_after, is_ms, is_runner, is_step, runner_in, runners_of, what_in, with_rounds, is_group, number_line, outcomes_in, placed, replay_line, timed_line, told_line, with_action, word, ReadsNumeric, SaysOf, closed, ranged, with_head}
 use Rattle.spec_tree.specs.Numbers.{is_canonical, number_in}
 use Rattle.spec_world_file.specs.WorldFile as file
 use Rattle.world_draft.specs.Lines.Ranges.{Passes}
@@ -54,6 +55,36 @@ says_head result left r now text e head add sort is reads =
     leaves_map result left (λ said. said ≡ with_head head add (sort e) now) (SaysOf text (λ x. with_head head add (sort x) (closed r)))
     (λ said k. says_some text e (λ x. with_head head add (sort x) (closed r)) said reads (k ∙ ap (λ (q : Reading). with_head head add (sort e) q) is))
 
+placed_is : (t : Bool) (said : Result Reading WorldKind) → t ≡ true → said ≡ placed t said
+placed_is true said h = refl
+placed_is false said h = absurd (cc)
+
+-- a row whose length is an expression
+abbrev pub length_said : (r : Reading) (head : file.Head) → Expr → Result Reading WorldKind
+length_said r head e = placed (is_group e) (with_head head with_action (TimedBy e None) (closed r))
+
+pub says_length :
+    {A : Type 0} (result : Result A (Stop WorldKind)) (left r now : Reading) (text : List ℕ) (e : Expr) (head : file.Head) →
+    is_group e ≡ true → now ≡ closed r → ReadsNumeric text (Some e) → Leaves result left (λ said. said ≡ with_head head with_action (TimedBy e None) now) → Leaves result left (SaysOf text (length_said r head))
+says_length result left r now text e head group is reads =
+    leaves_map result left (λ said. said ≡ with_head head with_action (TimedBy e None) now) (SaysOf text (length_said r head))
+    (λ said k. says_some text e (length_said r head) said reads
+    (k ∙ ap (λ (q : Reading). with_head head with_action (TimedBy e None) q) is ∙ placed_is (is_group e) (with_head head with_action (TimedBy e None) (closed r)) group))
+
+-- .. and is not in parentheses
+pub says_bare : (r : Reading) (text : List ℕ) (e : Expr) (head : file.Head) → is_group e ≡ false → ReadsNumeric text (Some e) → SaysOf text (length_said r head) (Err BadLine)
+says_bare r text e head bare reads =
+    says_some text e (length_said r head) (Err BadLine) reads (ap (λ (t : Bool). placed t (with_head head with_action (TimedBy e None) (closed r))) (sym bare))
+
+-- the line of an action that begins with a parenthesis, and of any other
+pub timed_by_is : (text : List ℕ) (o : Option file.Head) → starts_with nat_eq text (codes "(") ≡ true → option_map (λ head. TimedByLine head text) o ≡ option_and_then (timed_line text) o
+timed_by_is text None opens = refl
+timed_by_is text (Some head) opens = ap (λ (t : Bool). if t then Some (TimedByLine head text) else number_line (TimedLine head) text) (sym opens)
+
+pub timed_ms_is : (text : List ℕ) (o : Option file.Head) → starts_with nat_eq text (codes "(") ≡ false → option_and_then (λ head. number_line (TimedLine head) text) o ≡ option_and_then (timed_line text) o
+timed_ms_is text None other = refl
+timed_ms_is text (Some head) other = ap (λ (t : Bool). if t then Some (TimedByLine head text) else number_line (TimedLine head) text) (sym other)
+
 ranged_is : (t : Bool) (said : Result Reading WorldKind) → t ≡ true → said ≡ ranged t said
 ranged_is true said h = refl
 ranged_is false said h = absurd (cc)
@@ -74,7 +105,7 @@ lasts result left r now line z ms head sort form after is said_line passes =
 ends_is : (text rest : List ℕ) (n : ℕ) → rest ≡ following n text → (length rest == 0) ≡ true → ends_after n text ≡ true
 ends_is text rest n is h = ap (λ (bs : List ℕ). length bs == 0) (sym is) ∙ h
 
-pub timed_is : (text w rest : List ℕ) (head : file.Head) → w ≡ word 0 text → rest ≡ following 1 text → (length rest == 0) ≡ true → is_canonical w ≡ true → timed_line text head ≡ Some (TimedLine head (signed_digits_value 10 w))
+pub timed_is : (text w rest : List ℕ) (head : file.Head) → w ≡ word 0 text → rest ≡ following 1 text → (length rest == 0) ≡ true → is_canonical w ≡ true → number_line (TimedLine head) text ≡ Some (TimedLine head (signed_digits_value 10 w))
 timed_is text w rest head is is_rest none canonical =
     ap (λ (t : Bool). if t then option_map (TimedLine head) (number_in (word 0 text)) else None) (ends_is text rest 1 is_rest none)
     ∙ ap (option_map (TimedLine head)) (number_is w text is canonical)

@@ -45,11 +45,11 @@ since_free (Some n) free = cc
 
 -- an instance that is not held stays as it is
 pub free_stays : (i : Instance) → is_held i ≡ false → let_go i ≡ i
-free_stays i free = λ k. record { since = since_free i.since free k; completions = i.completions; told = (if free k then None else i.told); inputs = i.inputs }
+free_stays i free = λ k. record { since = since_free i.since free k; completions = i.completions; told = (if free k then None else i.told); length = i.length; inputs = i.inputs }
 
 -- one that is held is released
 held_goes : (i : Instance) → is_held i ≡ true → let_go i ≡ released i
-held_goes i held = λ k. record { since = None; completions = i.completions; told = (if held k then None else i.told); inputs = i.inputs }
+held_goes i held = λ k. record { since = None; completions = i.completions; told = (if held k then None else i.told); length = i.length; inputs = i.inputs }
 
 -- the calls for some instances are that for the first, and those for the others
 releases_by : (uid : ℕ) (i : Instance) (is : List Instance) (b : Bool) → (if b then call_of uid i ∷ releases (uid + 1) is else releases (uid + 1) is) ≡ (if b then call_of uid i ∷ [] else []) ++ releases (uid + 1) is

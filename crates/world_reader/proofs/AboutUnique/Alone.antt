@@ -7,7 +7,7 @@ use Rattle.spec_world.specs.declared.world.ToldOut.{ToldOut}
 use Rattle.spec_world.specs.declared.world.World.{World}
 use Rattle.spec_world_file.specs.declared.world_fault.WorldFault.{WorldFault}
 use Rattle.spec_world_file.specs.declared.world_fault.WorldKind.{WorldKind}
-use Rattle.spec_world_file.specs.WorldFile.{Line, FactLine, IsLine, WhenLine, TimedLine, ReplayLine, GateLine, SensedLine, ToldLine, FailsLine, NeedsLine, SetsLine, OutLine, NameLine, GoalLine, RunnersLine, AtLine, TickLine, HaltLine, SetLine, TellLine, EveryLine, AfterForm, AfterLine, AfterLines, AfterText, GoesOn, LinesMake, LinesRead, Reading, ReadsNumeric, ReadsOuts, ReadsTold, ReadsWorld, SaysOf, SaysOfOuts, by_expr, by_outs, content, is_ignored, line_in, lines_in, no_header, nothing_read, without_gap, without_return, world_after}
+use Rattle.spec_world_file.specs.WorldFile.{Line, FactLine, IsLine, WhenLine, TimedLine, TimedByLine, ReplayLine, GateLine, SensedLine, ToldLine, FailsLine, NeedsLine, SetsLine, OutLine, NameLine, GoalLine, RunnersLine, AtLine, TickLine, HaltLine, SetLine, TellLine, EveryLine, AfterForm, AfterLine, AfterLines, AfterText, GoesOn, LinesMake, LinesRead, Reading, ReadsNumeric, ReadsOuts, ReadsTold, ReadsWorld, SaysOf, SaysOfOuts, by_expr, by_outs, content, is_ignored, line_in, lines_in, no_header, nothing_read, without_gap, without_return, world_after}
 use Rattle.world_draft.proofs.AboutLines.Telling.{never_begins, one_out}
 
 one_numeric : (text : List ℕ) (a b : Option Expr) → ReadsNumeric text a → ReadsNumeric text b → a ≡ b
@@ -42,6 +42,7 @@ one_line r (FactLine name opening) a b h k = h ∙ sym k
 one_line r (IsLine id fact op value) a b h k = h ∙ sym k
 one_line r (WhenLine head expr) a b h k = one_saying expr _ a b h k
 one_line r (TimedLine head ms) a b h k = h ∙ sym k
+one_line r (TimedByLine head expr) a b h k = one_saying expr _ a b h k
 one_line r (ReplayLine head ms outcomes) a b h k = h ∙ sym k
 one_line r (GateLine head expr) a b h k = one_saying expr _ a b h k
 one_line r (SensedLine head) a b h k = h ∙ sym k

@@ -14,7 +14,7 @@ use Rattle.spec_world.specs.declared.world.Event.{Event}
 use Rattle.spec_world.specs.declared.world.Fact.{Fact}
 use Rattle.spec_world.specs.declared.world.Row.{Row}
 use Rattle.spec_world.specs.declared.world.RowSort.{RowSort}
-use Rattle.spec_world.specs.declared.world.RowSort.TheVariants.{Is, When, Timed, Replay, Gate, Sensed, Told}
+use Rattle.spec_world.specs.declared.world.RowSort.TheVariants.{Is, When, Timed, TimedBy, Replay, Gate, Sensed, Told}
 use Rattle.spec_world.specs.declared.world.What.{What}
 use Rattle.spec_world.specs.declared.world.What.TheVariants.{Tick, Halt, Change, Tell}
 use Rattle.spec_world.specs.declared.world.World.{World}
@@ -81,6 +81,7 @@ module _ (facts : List Fact) (fact : Fact) where
   sort_more ports (Is n op value) h = (below_more n h.0, h.1, h.2)
   sort_more ports (When e) h = expr_more ports e h
   sort_more ports (Timed ms fails) h = (h.0, fails_more ports fails h.1)
+  sort_more ports (TimedBy length fails) h = (expr_more ports length h.0, fails_more ports fails h.1)
   sort_more ports (Replay ms outcomes) h = h
   sort_more ports (Gate e) h = expr_more ports e h
   sort_more ports Sensed h = h

@@ -11,7 +11,7 @@ use Rattle.spec_script.specs.declared.syntax.Expr.{Expr}
 use Rattle.spec_world.specs.declared.world.Fact.{Fact}
 use Rattle.spec_world.specs.declared.world.Row.{Row}
 use Rattle.spec_world.specs.declared.world.RowSort.{RowSort}
-use Rattle.spec_world.specs.declared.world.RowSort.TheVariants.{Is, When, Timed, Replay, Gate, Sensed, Told}
+use Rattle.spec_world.specs.declared.world.RowSort.TheVariants.{Is, When, Timed, TimedBy, Replay, Gate, Sensed, Told}
 use Rattle.spec_world.specs.declared.world.Set.{Set}
 use Rattle.spec_world_file.specs.declared.world_fault.WorldKind.{WorldKind}
 use Rattle.spec_tree.specs.Names.{is_reserved}
@@ -234,29 +234,43 @@ adds_out facts rows row text port e modelled h named reads =
       },
     ))))
 
+-- what is said anew of how an action answers
+adds_sort : (facts : List Fact) (rows : List Row) (row : Row) (sort : RowSort) → is_comparison row.sort ≡ is_comparison sort → is_modelled sort ≡ true → IsValidRow facts rows row → IsValidSort facts row.ports sort →
+    Adds facts rows row (Ok (record row { sort = sort }))
+adds_sort facts rows row sort same modelled h valid = (
+  refl,
+  same,
+  record {
+    own = h.own;
+    ports = h.ports;
+    sort = valid;
+    needs = h.needs;
+    needed = h.needed;
+    sets = h.sets;
+    effects = h.effects;
+    outs = h.outs;
+    outputs = h.outputs;
+    bare = never_bare (record row { sort = sort }) _ modelled;
+  },
+)
+
 fails_known : (facts : List Fact) (rows : List Row) (row : Row) (text : List ℕ) (e : Expr) (ms : ℕ) (t : Bool) → row.sort ≡ Timed ms None → IsValidRow facts rows row → ReadsNumeric text (Some e) → knows_all row.ports facts e ≡ t → Adds facts rows row (fails_by (Timed ms None) row t e)
 fails_known facts rows row text e ms false is h reads known = tt
 fails_known facts rows row text e ms true is h reads known =
-    let timed : IsValidSort facts row.ports (Timed ms None) = subst (IsValidSort facts row.ports) is h.sort in (
-      refl,
-      ap is_comparison is,
-      record {
-        own = h.own;
-        ports = h.ports;
-        sort = (timed.0, valid_expr text row.ports facts e reads known);
-        needs = h.needs;
-        needed = h.needed;
-        sets = h.sets;
-        effects = h.effects;
-        outs = h.outs;
-        outputs = h.outputs;
-        bare = λ k. absurd (cc);
-      },
-    )
+    let timed : IsValidSort facts row.ports (Timed ms None) = subst (IsValidSort facts row.ports) is h.sort in
+    adds_sort facts rows row (Timed ms (Some e)) (ap is_comparison is) refl h (timed.0, valid_expr text row.ports facts e reads known)
+
+fails_measured : (facts : List Fact) (rows : List Row) (row : Row) (text : List ℕ) (e length : Expr) (t : Bool) → row.sort ≡ TimedBy length None → IsValidRow facts rows row → ReadsNumeric text (Some e) → knows_all row.ports facts e ≡ t → Adds facts rows row (fails_by (TimedBy length None) row t e)
+fails_measured facts rows row text e length false is h reads known = tt
+fails_measured facts rows row text e length true is h reads known =
+    let timed : IsValidSort facts row.ports (TimedBy length None) = subst (IsValidSort facts row.ports) is h.sort in
+    adds_sort facts rows row (TimedBy length (Some e)) (ap is_comparison is) refl h (timed.0, valid_expr text row.ports facts e reads known)
 
 fails_sort : (facts : List Fact) (rows : List Row) (row : Row) (text : List ℕ) (e : Expr) (sort : RowSort) → row.sort ≡ sort → IsValidRow facts rows row → ReadsNumeric text (Some e) → Adds facts rows row (fails_by sort row (knows_all row.ports facts e) e)
 fails_sort facts rows row text e (Timed ms None) is h reads = fails_known facts rows row text e ms (knows_all row.ports facts e) is h reads refl
 fails_sort facts rows row text e (Timed ms (Some other)) is h reads = tt
+fails_sort facts rows row text e (TimedBy length None) is h reads = fails_measured facts rows row text e length (knows_all row.ports facts e) is h reads refl
+fails_sort facts rows row text e (TimedBy length (Some other)) is h reads = tt
 fails_sort facts rows row text e (Is n op value) is h reads = tt
 fails_sort facts rows row text e (When w) is h reads = tt
 fails_sort facts rows row text e (Replay ms outcomes) is h reads = tt
@@ -290,6 +304,7 @@ name_told facts rows row port (Told outs) is h named =
 name_told facts rows row port (Is n op value) is h named = tt
 name_told facts rows row port (When w) is h named = tt
 name_told facts rows row port (Timed ms fails) is h named = tt
+name_told facts rows row port (TimedBy length fails) is h named = tt
 name_told facts rows row port (Replay ms outcomes) is h named = tt
 name_told facts rows row port (Gate g) is h named = tt
 name_told facts rows row port Sensed is h named = tt

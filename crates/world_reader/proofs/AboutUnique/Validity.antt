@@ -10,7 +10,7 @@ use Rattle.spec_script.specs.declared.syntax.Expr.{Expr}
 use Rattle.spec_world.specs.declared.world.Event.{Event}
 use Rattle.spec_world.specs.declared.world.Fact.{Fact}
 use Rattle.spec_world.specs.declared.world.Row.{Row}
-use Rattle.spec_world.specs.declared.world.RowSort.TheVariants.{When, Timed, Replay, Gate, Sensed, Told}
+use Rattle.spec_world.specs.declared.world.RowSort.TheVariants.{When, Timed, TimedBy, Replay, Gate, Sensed, Told}
 use Rattle.spec_world.specs.declared.world.Set.{Set}
 use Rattle.spec_world.specs.declared.world.What.TheVariants.{Tick, Halt, Change, Tell}
 use Rattle.spec_world.specs.declared.world.ToldOut.{ToldOut}
@@ -19,7 +19,7 @@ use Rattle.spec_world_file.specs.declared.world_fault.WorldFault.{WorldFault}
 use Rattle.spec_world_file.specs.declared.world_fault.WorldKind.{WorldKind}
 use Rattle.spec_world.specs.Worlds.{IsComparisonIn, IsValidEvent, IsValidRow, IsValidWorld}
 use Rattle.spec_tree.specs.Numbers.{in_range, is_int}
-use Rattle.spec_world_file.specs.WorldFile.{Line, FactLine, IsLine, WhenLine, TimedLine, ReplayLine, GateLine, SensedLine, ToldLine, FailsLine, NeedsLine, SetsLine, OutLine, NameLine, GoalLine, RunnersLine, AtLine, TickLine, HaltLine, SetLine, TellLine, EveryLine, AfterForm, AfterLine, AfterLines, AfterText, GoesOn, LinesMake, LinesRead, Reading, ReadsNumeric, ReadsOuts, ReadsTold, ReadsWorld, SaysOf, SaysOfOuts, by_expr, by_outs, closed, comparison_number, content, fact_number, is_ms, is_ignored, is_runner, is_small, is_uid, line_in, lines_in, no_header, nothing_read, plain_row, row_with_effect, row_with_fails, row_with_name, row_with_need, row_with_out, runners_of, telling_of, where_modelled, with_action, with_event, with_row, without_return, world_after, world_of, is_step, runner_in, what_in}
+use Rattle.spec_world_file.specs.WorldFile.{Line, FactLine, IsLine, WhenLine, TimedLine, TimedByLine, ReplayLine, GateLine, SensedLine, ToldLine, FailsLine, NeedsLine, SetsLine, OutLine, NameLine, GoalLine, RunnersLine, AtLine, TickLine, HaltLine, SetLine, TellLine, EveryLine, AfterForm, AfterLine, AfterLines, AfterText, GoesOn, LinesMake, LinesRead, Reading, ReadsNumeric, ReadsOuts, ReadsTold, ReadsWorld, SaysOf, SaysOfOuts, by_expr, by_outs, closed, comparison_number, content, fact_number, is_group, is_ms, is_ignored, is_runner, is_small, is_uid, line_in, lines_in, no_header, nothing_read, plain_row, row_with_effect, row_with_fails, row_with_name, row_with_need, row_with_out, runners_of, telling_of, where_modelled, with_action, with_event, with_row, without_return, world_after, world_of, is_step, runner_in, what_in}
 use Rattle.world_reader.proofs.AboutUnique.WellFormed.{AreWell, WellFormed, line_well}
 use Rattle.world_reader.proofs.AboutUnique.Grown.{kept_more}
 use Rattle.world_reader.proofs.AboutUnique.Sound.{Sound, Stays, comparison_there, fact_there, ms_most, no_names, no_numbers, runner_within, sound_closed, uid_within, stays_event, stays_fact, stays_goal, stays_moment, stays_numbered, stays_placed, stays_ranged, stays_runners, valid_expr}
@@ -52,6 +52,10 @@ stays_line r (WhenLine head expr) said w h k =
 stays_line r (TimedLine head ms) said w h k =
     subst Stays (sym k) (stays_ranged (is_ms ms) _ (λ m. stays_head (closed r) head with_action (Timed (nat_abs ms) None) w (λ known. (ms_most ms m, tt))
     (λ may. stays_action (closed r) (plain_row head.id head.ports (Timed (nat_abs ms) None)) refl (sound_closed r h) may)))
+stays_line r (TimedByLine head expr) said w h k =
+    stays_says expr _ said k (λ e reads. stays_placed (is_group e) _ (λ group.
+    stays_head (closed r) head with_action (TimedBy e None) w (λ known. (valid_expr expr head.ports r.facts e reads known, tt))
+    (λ may. stays_action (closed r) (plain_row head.id head.ports (TimedBy e None)) refl (sound_closed r h) may)))
 stays_line r (ReplayLine head ms outcomes) said w h k =
     subst Stays (sym k) (stays_ranged (is_ms ms) _ (λ m. stays_head (closed r) head with_action (Replay (nat_abs ms) outcomes) w.0 (λ known. (ms_most ms m, w.1, w.2))
     (λ may. stays_action (closed r) (plain_row head.id head.ports (Replay (nat_abs ms) outcomes)) refl (sound_closed r h) may)))

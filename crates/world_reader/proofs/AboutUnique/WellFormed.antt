@@ -1,14 +1,14 @@
 -- What the words of a line say is well formed.
 use Rattle.std.proofs.Common.{◌≡◌, ℕ, ◌≤◌, Bool, true, false, not, ◌&&◌, List, [], ◌∷◌, ◌-◌, map, length, take, codes, ℤ, Option, Some, None, refl, arith, if◌then◌else◌}
 use Rattle.std.specs.Prelude.{nat_eq, option_map, option_and_then, bytes_eq, nat_lt, nat_le, ◌==◌, ◌||◌}
-use Rattle.std.specs.List.{list_all, slice_split, ends_with}
+use Rattle.std.specs.List.{list_all, slice_split, ends_with, starts_with}
 use Rattle.std.proofs.lemmas.List.{length-map}
 use Rattle.std.proofs.lemmas.Bool.Decides.{nat_tests}
 use Rattle.spec_script.proofs.Bools.{both}
 use Rattle.spec_script.specs.declared.syntax.Cmp.{Cmp}
 use Rattle.spec_world.specs.declared.world.How.{How}
 use Rattle.spec_world.specs.Worlds.{is_name}
-use Rattle.spec_world_file.specs.WorldFile.{Line, FactLine, IsLine, WhenLine, TimedLine, ReplayLine, GateLine, SensedLine, ToldLine, FailsLine, NeedsLine, SetsLine, OutLine, NameLine, GoalLine, RunnersLine, AtLine, TickLine, HaltLine, SetLine, TellLine, EveryLine, Head, head_with, head_of, head_in, comparison_in, outcomes_in, name_line, number_line, named_number, how_in, sets_line, out_line, is_line, condition_line, timed_line, replay_line, told_line, action_line, success_in, tell_line, event_line, line_by, line_in, word, following, ends_after, is_line_byte, every_line, parts_in, words_in}
+use Rattle.spec_world_file.specs.WorldFile.{Line, FactLine, IsLine, WhenLine, TimedLine, TimedByLine, ReplayLine, GateLine, SensedLine, ToldLine, FailsLine, NeedsLine, SetsLine, OutLine, NameLine, GoalLine, RunnersLine, AtLine, TickLine, HaltLine, SetLine, TellLine, EveryLine, Head, head_with, head_of, head_in, comparison_in, outcomes_in, name_line, number_line, named_number, how_in, sets_line, out_line, is_line, condition_line, timed_line, replay_line, told_line, action_line, success_in, tell_line, event_line, line_by, line_in, word, following, ends_after, is_line_byte, every_line, parts_in, words_in}
 use Rattle.spec_tree.specs.Numbers.{number_in}
 
 pub record NamedHead (head : Head) : Type 0 where
@@ -21,6 +21,7 @@ WellFormed (FactLine name opening) = is_name name ≡ true
 WellFormed (IsLine id fact op value) = is_name id ≡ true
 WellFormed (WhenLine head expr) = NamedHead head
 WellFormed (TimedLine head ms) = NamedHead head
+WellFormed (TimedByLine head expr) = NamedHead head
 WellFormed (ReplayLine head ms outcomes) = NamedHead head × (1 ≤ length outcomes) × (length outcomes ≤ 64)
 WellFormed (GateLine head expr) = NamedHead head
 WellFormed (SensedLine head) = NamedHead head
@@ -132,10 +133,14 @@ replay_well text head h =
     (λ k. chained (λ (z : ℤ). Unit {0}) WellFormed (λ ms. option_map (ReplayLine head ms) (outcomes_in (word 1 text))) (number_in (word 0 text)) (anything (number_in (word 0 text)))
     (λ z u. mapped_by HasOutcomes WellFormed (ReplayLine head z) (outcomes_in (word 1 text)) (outcomes_well (word 1 text)) (λ l o. (h, o.0, o.1)))) tt
 
+timed_well : (text : List ℕ) (head : Head) → NamedHead head → AreWell WellFormed (timed_line text head)
+timed_well text head h =
+    pick WellFormed (starts_with nat_eq text (codes "(")) (Some (TimedByLine head text)) (number_line (TimedLine head) text) (λ k. h) (number_well (TimedLine head) text (λ z. h))
+
 action_well : (text : List ℕ) → AreWell WellFormed (action_line text)
 action_well text =
     pick WellFormed (bytes_eq (word 1 text) (codes "timed")) (option_and_then (timed_line (following 2 text)) (head_in (word 0 text))) _
-    (λ k. chained NamedHead WellFormed (timed_line (following 2 text)) (head_in (word 0 text)) (head_well (word 0 text)) (λ head h. number_well (TimedLine head) (following 2 text) (λ z. h)))
+    (λ k. chained NamedHead WellFormed (timed_line (following 2 text)) (head_in (word 0 text)) (head_well (word 0 text)) (λ head h. timed_well (following 2 text) head h))
     (pick WellFormed (bytes_eq (word 1 text) (codes "replay")) (option_and_then (replay_line (following 2 text)) (head_in (word 0 text))) _
     (λ k. chained NamedHead WellFormed (replay_line (following 2 text)) (head_in (word 0 text)) (head_well (word 0 text)) (λ head h. replay_well (following 2 text) head h))
     (pick WellFormed (bytes_eq (word 1 text) (codes "gate")) (option_map (λ head. GateLine head (following 2 text)) (head_in (word 0 text))) _

@@ -5,8 +5,8 @@ use Rattle.std.proofs.lemmas.List.{take_all, length-drop}
 use Rattle.script_reader.proofs.Lexing.{quoted_utf8}
 use Rattle.script_reader.proofs.lexer.quoted.Goals as goal
 
-pub of-body-requires-clause-utf8 : goal.of-body-requires-clause-utf8
-of-body-requires-clause-utf8 c =
+pub of-requires-clause-utf8 : goal.of-requires-clause-utf8
+of-requires-clause-utf8 c =
     let h = c.in_ok-from_slice.ensures.items in
     let text = c.args.text.now in
     let at = c.args.at in
