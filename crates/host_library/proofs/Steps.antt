@@ -15,9 +15,10 @@ pub use types.Logic.{sem}
 pub use types.Kit.{‵, raw, ◌⊛◌, some, later, prop, ◌$◌, ◌∵◌, !, qed, done, move, keep, drop, use0, use1, use2, use3, split, join, fsplit, fjoin, feq_l, feq_i, pick, await, regoal, suffices, frame, group}
 pub use types.SemTy.{Body}
 pub use types.Tokens.{lft_new, lft_end, lent_back}
-pub use types.Run.{enter, of_opd, unit_lit, addr, stop, no_more, and_then, returns}
-pub use types.ByLocal.{alloc_all, pass_all, free_all, look_at, get, through, sets, lands_as}
-pub use denote.Builtin.{u8, u32, u64, i64, usize, unit}
+pub use types.Run.{enter, of_opd, unit_lit, addr, stop, from, fld, hop, no_more, and_then, returns}
+pub use types.Part.{agg, sub, whole}
+pub use types.ByLocal.{alloc_all, pass_all, free_all, look_at, look_in_at, get, get_in, through, sets, lands_as}
+pub use denote.Builtin.{u8, u32, u64, i64, usize, unit, SliceRefOf}
 pub use denote.Exit.{yes}
 pub use denote.Laws.{Is, shows}
 pub use denote.Lend.{lends_ref, lends_shr, ref_back}

@@ -6,4 +6,5 @@ pub mod Opening
 pub mod Owned
 pub mod Reads
 pub mod Texts
+pub mod Traces
 pub mod Values

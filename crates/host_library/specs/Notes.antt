@@ -1,5 +1,5 @@
 -- What the last event has done, as C is told it.
-use Rattle.std.specs.Prelude.{ℕ, ℤ, pos, List, Option, Some, None, if◌then◌else◌}
+use Rattle.std.specs.Prelude.{◌≡◌, ℕ, ℤ, pos, min, List, ◌++◌, length, map, take, drop, Option, Some, None, if◌then◌else◌}
 use Rattle.spec_run.specs.declared.block.Header.{Header}
 use Rattle.spec_run.specs.declared.block.Header.TheVariants as header
 use Rattle.spec_run.specs.declared.fault.Cause.{Cause}
@@ -67,6 +67,15 @@ note_told (note.Quenched runner uid) = plain 7 runner uid no_status no_status
 abbrev pub note_given : Option Note → NoteTold
 note_given (Some n) = note_told n
 note_given None = plain 0 0 0 no_status no_status
+
+-- so many of the first list, and behind them the rest of the second
+abbrev pub put_front : ℕ → List NoteTold → List NoteTold → List NoteTold
+put_front count front behind = take count front ++ drop count behind
+
+-- C is told how many notes there are, and as many of them as its room has place for
+abbrev pub NotesTold : List Note → List NoteTold → ℕ → List NoteTold → Type 0
+NotesTold notes room size after =
+    (size ≡ length notes) × (after ≡ put_front (min (length notes) (length room)) (map note_told notes) room)
 
 abbrev pub event_told : Header → EventTold
 event_told (header.Tick runner at) = record { kind = 1; runner = runner; status = no_status; number = 0; at_ms = at }

@@ -1,8 +1,9 @@
 //! What the last event has done.
-ghost use Rattle.std.specs.Prelude.{◌≡◌, None, length, slice_get};
+ghost use Rattle.std.specs.Prelude.{◌≡◌, IfOk, None, length, map, min, slice_get};
 ghost use types.Logic.{sem};
 ghost use Rattle.host_library.specs.Owned.{hosted_owns};
 ghost use Rattle.host_library.specs.Notes as told;
+ghost use Rattle.host_library.specs.Traces.{LinesTold, trace_of};
 
 use crate::codes::{NO_STATUS, answer_number, status_number};
 use crate::hosted::Hosted;
@@ -147,6 +148,16 @@ fn note_told(note: Note) -> NoteTold
     }
 }
 
+/// Puts what is told of notes into a room, as many as have place.
+fn put_notes(notes: &[Note], room: &mut [NoteTold])
+    ensures { room.new ≡ told.put_front (min (length notes.now) (length room.old)) (map told.note_told notes.now) room.old }
+{
+    let count = notes.len().min(room.len());
+    for place in 0..count {
+        room[place] = note_told(notes[place]);
+    }
+}
+
 /// What is told where there is no note.
 fn no_note() -> NoteTold
     ensures { result ≡ told.note_given None }
@@ -205,14 +216,11 @@ impl Hosted {
     }
 
     /// Puts the notes of the last event into a room, as many as have place, and gives their number.
-    fn notes(&self, room: &mut [NoteTold]) -> usize {
+    fn notes(&self, room: &mut [NoteTold]) -> usize
+        ensures { told.NotesTold self.now.session.block.notes room.old result room.new }
+    {
         let notes = self.session.block().notes.list();
-        for (place, told) in room.iter_mut().enumerate() {
-            match notes.get(place) {
-                Some(note) => *told = note_told(*note),
-                None => return notes.len(),
-            }
-        }
+        put_notes(notes, room);
         notes.len()
     }
 
@@ -269,7 +277,9 @@ impl Hosted {
     }
 
     /// The lines of the trace for the last event.
-    fn lines(&self) -> Result<SureSink, TextStop> {
+    fn lines(&self) -> Result<SureSink, TextStop>
+        ensures { IfOk result (λ sink. sink ≡ trace_of self.now.session) }
+    {
         let session = &self.session;
         let names = names_of(self.alloc, session.tree(), session.world(), session.slots())?;
         let mut sink = SureSink::new(self.alloc);
@@ -278,7 +288,9 @@ impl Hosted {
     }
 
     /// Copies the lines of the trace for the last event; nothing for want of memory.
-    fn print(&self, room: &mut [u8]) -> usize {
+    fn print(&self, room: &mut [u8]) -> usize
+        ensures { LinesTold (trace_of self.now.session) room.old result room.new }
+    {
         match self.lines() {
             Ok(sink) => copy_text(sink.list(), room),
             Err(_) => 0,
@@ -318,7 +330,11 @@ pub unsafe extern "C" fn bt_note_at(session: *mut u8, place: usize) -> NoteTold
 
 /// Puts the notes of the last event into a room, in the session at this pointer.
 #[unsafe(no_mangle)]
-pub unsafe extern "C" fn bt_notes(session: *mut u8, room: &mut [NoteTold]) -> usize {
+pub unsafe extern "C" fn bt_notes(session: *mut u8, room: &mut [NoteTold]) -> usize
+    ghost before: { Hosted }
+    requires* { sem 𝓛 (hosted_owns session before) }
+    ensures* { sem 𝓛 (hosted_owns session before) ∗ ⌜ told.NotesTold before.session.block.notes room.old result room.new ⌝ }
+{
     Hosted::notes(&*(session as *mut Hosted), room)
 }
 
@@ -364,6 +380,10 @@ pub unsafe extern "C" fn bt_changed_entry_at(session: *mut u8, place: usize) -> 
 
 /// Copies the lines of the trace for the last event, in the session at this pointer.
 #[unsafe(no_mangle)]
-pub unsafe extern "C" fn bt_print(session: *mut u8, room: &mut [u8]) -> usize {
+pub unsafe extern "C" fn bt_print(session: *mut u8, room: &mut [u8]) -> usize
+    ghost before: { Hosted }
+    requires* { sem 𝓛 (hosted_owns session before) }
+    ensures* { sem 𝓛 (hosted_owns session before) ∗ ⌜ LinesTold (trace_of before.session) room.old result room.new ⌝ }
+{
     Hosted::print(&*(session as *mut Hosted), room)
 }

@@ -21,7 +21,7 @@ bt_next_spec 𝓤 𝓛 𝓜 𝓡 wired =
     proved 𝓛 f.ended stayed c 𝓜 𝓡 (Goes-dropped 𝓛 0 (plain (λ _. RawPtr)) yes (λ κs x w. refl), (Goes-dropped 𝓛 0 (plain (λ _. u64)) yes (λ κs x w. refl), tt))
     f.Key.name code.function (code.unfolded 𝓤 𝓛.H 𝓜 𝓡 wired)
     (λ κs. (rawptr_vals, (uint_vals w64, tt))) (λ κs. (rawptr_Tells, (uint_Tells w64, tt))) (λ κs qs bounds a e are.
-    let until = a.1.0 in let low-until : until < 2 ^ 64 = are.1.0.1 in 
+    let until = a.1.0 in let low-until : until < 2 ^ 64 = are.1.0.1 in
     let y : Ptr → W.Ghost = λ p. ((κs, qs, bounds, (p, (until, tt)), (rawptr_vals p, (uint_vals w64 until, tt))), e) in
     qed 𝓛 (raw (on_entry 𝓛 f.signature κs qs a (y a.0).0.4) ∷ ‵ (hosted_owns a.0 e) ∷ []) ∵ drop ! $
     in_a_block ! a.0 (λ p. hosted_owns p e) (fst∗ 𝓤 (never 𝓤) (sem 𝓛 (holds (bare (lone R.mir)) null_ptr))) (λ b o same.

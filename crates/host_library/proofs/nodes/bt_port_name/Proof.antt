@@ -1,5 +1,5 @@
 -- `bt_port_name` lends the session and the room for the one call that it makes, and has the session back as it was.
-use Rattle.host_library.proofs.Steps.{◌≡◌, ◌<◌, ◌^◌, ◌++◌, w32, w64, vint, ℕ, List, length, u8, u32, usize, owned, owns, uint_vals, uint_Tells, uint_Makes, uint_Lawful, [], ◌∷◌, refl, Bor, MutBor, proved, full_share, emp, sep, id⊢, fst∗, never, Lft, Incl-refl, ftrue, flft, flent, named, vptr, bare, fact, fact_i, tables, sem, ‵, raw, ◌⊛◌, some, later, prop, ◌$◌, ◌∵◌, !, qed, move, keep, drop, use0, use1, use2, split, join, fsplit, fjoin, feq_l, pick, await, regoal, suffices, group, done, lft_new, lft_end, lent_back, enter, of_opd, addr, stop, no_more, and_then, returns, alloc_all, pass_all, free_all, look_at, get, through, sets, lands_as, yes, Is, shows, lends_shr, lone, part_at, Ptr, RawPtr, block_ptr, null_ptr, in_a_block, rawptr_vals, rawptr_Tells, ShrRef, shr_vals, MutSlice, mut_slice_vals, mut_slice_Tells, plain, nothing, heard, peeks, calls_at, lasts, triple_of, framed, Stays, walk_of, stay_dropped, gave_slice, Goes-dropped, Goes-gave_slice, ends_at}
+use Rattle.host_library.proofs.Steps.{◌≡◌, ◌<◌, ◌^◌, ◌++◌, w32, w64, vint, ℕ, List, length, u8, u32, usize, owned, owns, uint_vals, uint_Tells, uint_Makes, uint_Lawful, [], ◌∷◌, refl, Bor, MutBor, proved, full_share, emp, sep, id⊢, fst∗, never, Lft, Incl-refl, ftrue, flft, flent, named, vptr, bare, fact, fact_i, tables, sem, ‵, raw, ◌⊛◌, some, later, prop, ◌$◌, ◌∵◌, !, qed, move, keep, drop, use0, use1, use2, split, join, fsplit, fjoin, feq_l, pick, await, regoal, suffices, group, done, lft_new, lft_end, lent_back, enter, of_opd, addr, stop, from, fld, hop, agg, sub, whole, get_in, look_in_at, no_more, and_then, returns, alloc_all, pass_all, free_all, look_at, get, through, sets, lands_as, yes, Is, shows, lends_shr, lone, part_at, Ptr, RawPtr, block_ptr, null_ptr, in_a_block, rawptr_vals, rawptr_Tells, ShrRef, shr_vals, MutSlice, mut_slice_vals, mut_slice_Tells, plain, nothing, heard, peeks, calls_at, lasts, triple_of, framed, Stays, walk_of, stay_dropped, gave_slice, Goes-dropped, Goes-gave_slice, ends_at}
 use prog.Wp.{WpFn}
 use Rattle.host_library.specs.Reads as reads
 use Rattle.host_library.specs.Texts.{TextTold}
@@ -33,7 +33,9 @@ bt_port_name_spec 𝓤 𝓛 𝓜 𝓡 wired =
     regoal ! (λ p. prop (WpFn 𝓤 𝓛.H 𝓣.C 𝓣.Λ code.function (rawptr_vals p ++ (vint w32 uid ∷ vint w64 place ∷ mut_slice_vals x)) (W.post (y p)))) same refl $
     fsplit ! $ enter ! _ _ _ _ _ $ alloc_all ! (λ l. pass_all ! refl ((tt, tt), ((tt, record { fits = low-uid }), ((tt, record { fits = low-place }), ((tt, (tt, (record { fits = low-count }, tt))), tt)))) $
     -- [the session in its block; the right to free it; the room; its token; the locals]
-    sets ! (of_opd ! (get ! refl)) refl (tt, tt) $ sets ! (addr ! (through ! refl (stop !))) refl (tt, tt) $ 
+    sets ! (of_opd ! (get ! refl)) refl (tt, tt) $ sets ! (addr ! (through ! refl (stop !))) refl (tt, tt) $
+    sets ! (addr ! (from ! (fld ! refl (hop ! (look_in_at ! 4 (sub ! 0 refl (whole !))) (stop !))))) refl (tt, tt) $
+    sets ! (agg ! (and_then ! (get ! refl) (and_then ! (get_in ! (fld ! refl (stop !)) (sub ! 1 refl (whole !))) (no_more !)))) refl (tt, (tt, (record { fits = low-count }, tt))) $
     lft_new ! tt (λ α. let κ : Lft = α ∷ [] in move ! (1 ∷ 0 ∷ []) $
     use2 𝓛 (later ((‵ ((ShrRef (named 0) κ R).own_val (record { ref_ptr = (b, o); now = e }) (vptr b o ∷ [])) ⊛ ‵ (flent κ (part_at R full_share e b o))) ⊛ ‵ (flft κ full_share)))
     (lends_shr 𝓛 R (named 0) κ full_share e b o R.lives (hosted_laws.shares 𝓛 e) ((κ, full_share) ∷ []) (within κ) (Incl-refl κ)) $ await ! tt $ split ! $ split ! $
