@@ -1,9 +1,11 @@
-/// Measures a tick of a ReactiveSequence of conditions that hold and an action that runs: by the library, and by two trees of nodes
-/// with virtual calls, as a program without an engine has them. All nodes are visited in each tick.
+/// Measures a tick of a ReactiveSequence of conditions that hold and an action that runs: by the library, and by three trees of nodes
+/// with virtual calls, as a program without an engine has them. All nodes are visited in each tick, and all but those that run are
+/// reset at its end, so that the status of each condition changes twice.
 ///
 /// usage: ticks NODES TICKS
 ///
 /// A line for each: who, nanoseconds of the processor a tick, and how often a tick has asked the heap.
+#include <chrono>
 #include <condition_variable>
 #include <cstdio>
 #include <ctime>
@@ -98,6 +100,93 @@ private:
   std::string name;
 };
 
+/// A node that goes through the steps of `TreeNode::executeTick` of BehaviorTree.CPP 4, where nothing was injected into it and it has
+/// no scripts: it copies the callbacks that may be injected, under a lock; makes the environment of its preconditions, which are
+/// none; asks the clock round its tick, for a monitor; looks for postconditions; and keeps its status behind a lock, with the moment
+/// of each change for those who listen.
+class Executed {
+public:
+  explicit Executed(std::string name) : name(std::move(name)) {}
+  virtual ~Executed() = default;
+  Status execute() {
+    std::function<Status(Executed &)> before;
+    std::function<Status(Executed &, Status)> after;
+    std::function<void(Executed &, Status, std::chrono::microseconds)> monitor;
+    {
+      const std::lock_guard<std::mutex> guard(injecting);
+      before = pre_tick;
+      after = post_tick;
+      monitor = tick_monitor;
+    }
+    Status answer = status();
+    const bool is_replaced = fails_precondition(answer) || (before && (answer = before(*this)) != Status::IDLE);
+    if (!is_replaced) {
+      const auto begin = std::chrono::steady_clock::now();
+      answer = tick();
+      const auto end = std::chrono::steady_clock::now();
+      if (monitor)
+        monitor(*this, answer, std::chrono::duration_cast<std::chrono::microseconds>(end - begin));
+    }
+    if (answer != Status::RUNNING)
+      run_postconditions(answer);
+    if (after)
+      answer = after(*this, answer);
+    set(answer);
+    return answer;
+  }
+  void reset() {
+    if (status() == Status::RUNNING)
+      halt();
+    set(Status::IDLE);
+  }
+  Status status() const {
+    const std::lock_guard<std::mutex> guard(lock);
+    return kept;
+  }
+  using Moment = std::chrono::high_resolution_clock::time_point;
+  std::vector<std::function<void(Moment, const Executed &, Status, Status)>> listeners;
+  std::function<Status(Executed &)> pre_tick;
+  std::function<Status(Executed &, Status)> post_tick;
+  std::function<void(Executed &, Status, std::chrono::microseconds)> tick_monitor;
+
+private:
+  using Entries = std::vector<std::pair<std::string, int>>;
+  using Script = std::function<Status(const std::pair<std::shared_ptr<Entries>, std::shared_ptr<Entries>> &)>;
+  bool fails_precondition(Status &answer) {
+    const auto environment = std::make_pair(blackboard, enums);
+    for (const Script &script : preconditions)
+      if (script && (answer = script(environment)) != Status::IDLE)
+        return true;
+    return false;
+  }
+  void run_postconditions(Status answer) {
+    for (const Script *script : {&postconditions[answer == Status::SUCCESS ? 0 : 1], &postconditions[2]})
+      if (*script)
+        (*script)(std::make_pair(blackboard, enums));
+  }
+  void set(Status status) {
+    Status before;
+    {
+      const std::lock_guard<std::mutex> guard(lock);
+      before = std::exchange(kept, status);
+    }
+    if (before == status)
+      return;
+    changed.notify_all();
+    const Moment now = std::chrono::high_resolution_clock::now();
+    for (const auto &listener : listeners)
+      listener(now, *this, before, status);
+  }
+  virtual Status tick() = 0;
+  virtual void halt() {}
+  mutable std::mutex lock, injecting;
+  std::condition_variable changed;
+  Status kept = Status::IDLE;
+  std::string name;
+  std::shared_ptr<Entries> blackboard = std::make_shared<Entries>(), enums = std::make_shared<Entries>();
+  Script preconditions[4], postconditions[3];
+};
+
 /// A condition, which asks a value that the robot has told.
 template <class Node> class Condition : public Node {
 public:
@@ -114,7 +203,7 @@ public:
   using Condition<Node>::Condition;
 };
 
-/// Ticks its children in order, each time from the first, and resets the others where one runs.
+/// Ticks its children in order, each time from the first, and resets all others where one runs, as BehaviorTree.CPP does.
 template <class Node> class ReactiveSequence : public Node {
 public:
   using Node::Node;
@@ -126,8 +215,9 @@ private:
       const Status answer = children[at]->execute();
       if (answer == Status::SUCCESS)
         continue;
-      for (std::size_t other = at + 1; other < children.size(); ++other)
-        children[other]->reset();
+      for (std::size_t other = 0; other < children.size(); ++other)
+        if (other != at)
+          children[other]->reset();
       return answer;
     }
     return Status::SUCCESS;
@@ -183,4 +273,5 @@ int main(int, char **words) {
   measure_library(nodes, ticks);
   measure_calls<Bare>("virtual", nodes, ticks);
   measure_calls<Locked>("locked", nodes, ticks);
+  measure_calls<Executed>("executed", nodes, ticks);
 }
