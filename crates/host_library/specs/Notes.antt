@@ -68,14 +68,14 @@ abbrev pub note_given : Option Note → NoteTold
 note_given (Some n) = note_told n
 note_given None = plain 0 0 0 no_status no_status
 
--- so many of the first list, and behind them the rest of the second
-abbrev pub put_front : ℕ → List NoteTold → List NoteTold → List NoteTold
-put_front count front behind = take count front ++ drop count behind
+-- so many of the notes at the front of a room, and behind them what it held
+abbrev pub notes_in : ℕ → List Note → List NoteTold → List NoteTold
+notes_in count notes room = map note_told (take count notes) ++ drop count room
 
 -- C is told how many notes there are, and as many of them as its room has place for
 abbrev pub NotesTold : List Note → List NoteTold → ℕ → List NoteTold → Type 0
 NotesTold notes room size after =
-    (size ≡ length notes) × (after ≡ put_front (min (length notes) (length room)) (map note_told notes) room)
+    (size ≡ length notes) × (after ≡ notes_in (min (length notes) (length room)) notes room)
 
 abbrev pub event_told : Header → EventTold
 event_told (header.Tick runner at) = record { kind = 1; runner = runner; status = no_status; number = 0; at_ms = at }

@@ -1,5 +1,11 @@
 -- What the bytes of a tree file and of a world script open for a program in C, which may give no world.
 use Rattle.std.specs.Prelude.{◌≡◌, ◌⊎◌, ℕ, List, [], ◌∷◌, Bool, true, false, MatchBool, Option, Some, None, Result, Ok, Err}
+use Rattle.std.specs.Global.{Global}
+use Rattle.std.specs.declared.boxed.Box.{Box}
+use Rattle.base_texts.specs.declared.stop.Stop.{Stop}
+use Rattle.base_texts.specs.declared.stop.Stop.TheVariants as stop
+use Rattle.cli_refusals.specs.declared.refusal.Refusal.{Refusal}
+use Rattle.cli_refusals.specs.declared.refusal.Refusal.TheVariants as refusal
 use Rattle.cli_serve.specs.Rows.{MadeOf}
 use Rattle.spec_program.specs.declared.tree_fault.TreeFault.{TreeFault}
 use Rattle.spec_program.specs.Gives.{is_too_long}
@@ -11,6 +17,7 @@ use Rattle.spec_session.specs.Sessions.{Sitting}
 use Rattle.spec_tree.specs.declared.term.Tree.{Tree}
 use Rattle.spec_world.specs.declared.world.World.{World}
 use Rattle.spec_world_file.specs.declared.world_fault.WorldFault.{WorldFault}
+use Rattle.host_library.specs.declared.hosted.Hosted.{Hosted}
 use Rattle.host_library.specs.Codes.{misuse, no_memory, ok, refused}
 
 -- the main tree that is asked for by these bytes; by no bytes none is
@@ -33,6 +40,17 @@ OpensTold main tree sitting =
 abbrev pub OpensIn : Option (List ℕ) → List ℕ → List ℕ → Result Sitting OpenFault → Type 0
 OpensIn main tree [] sitting = OpensTold main tree sitting
 OpensIn main tree (b ∷ world) sitting = Opens main tree (b ∷ world) sitting
+
+-- why a tree opens no session whose leaves are all told what they answer; what refuses no file is want of memory
+abbrev pub told_stop : Refusal → Stop OpenFault
+told_stop (refusal.World f) = stop.Fault (fault.World f)
+told_stop (refusal.Tree f) = stop.Fault (fault.Tree f)
+told_stop _ = stop.NoMemory
+
+-- the session in the block of its own that was opened
+abbrev pub session_of : Result (Box Hosted Global) (Stop OpenFault) → Result Sitting (Stop OpenFault)
+session_of (Ok hosted) = Ok hosted.value.session
+session_of (Err stopped) = Err stopped
 
 -- C is told this of the opening with a main tree that is asked for by UTF-8, or by other bytes
 abbrev pub OpenTold : Bool → List ℕ → List ℕ → List ℕ → ℕ → Type 0

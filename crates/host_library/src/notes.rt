@@ -1,5 +1,5 @@
 //! What the last event has done.
-ghost use Rattle.std.specs.Prelude.{◌≡◌, IfOk, None, length, map, min, slice_get};
+ghost use Rattle.std.specs.Prelude.{◌≡◌, IfOk, None, length, min, slice_get};
 ghost use types.Logic.{sem};
 ghost use Rattle.host_library.specs.Owned.{hosted_owns};
 ghost use Rattle.host_library.specs.Notes as told;
@@ -150,7 +150,7 @@ fn note_told(note: Note) -> NoteTold
 
 /// Puts what is told of notes into a room, as many as have place.
 fn put_notes(notes: &[Note], room: &mut [NoteTold])
-    ensures { room.new ≡ told.put_front (min (length notes.now) (length room.old)) (map told.note_told notes.now) room.old }
+    ensures { room.new ≡ told.notes_in (min (length notes.now) (length room.old)) notes.now room.old }
 {
     let count = notes.len().min(room.len());
     for place in 0..count {

@@ -1,5 +1,5 @@
 //! How a session is opened, and why it is not.
-ghost use Rattle.std.specs.Prelude.{◌≡◌, ◌≤◌, IsUtf8, IfOk, Ok, length};
+ghost use Rattle.std.specs.Prelude.{◌≡◌, ◌≤◌, [], IsUtf8, IfOk, Ok, length};
 ghost use Rattle.std.specs.Str.{is_utf8};
 ghost use Rattle.std.specs.Option.{option_copied};
 ghost use Rattle.base_tables.specs.Runnable.{IsRunnable};
@@ -11,7 +11,7 @@ ghost use Rattle.spec_tree.specs.Limits.{most_file_bytes};
 ghost use Rattle.spec_tree.specs.Trees.{IsValid};
 ghost use Rattle.spec_world.specs.Runnable.{IsRunnableWorld};
 ghost use Rattle.world_reader.specs.Readings as readings;
-ghost use Rattle.host_library.specs.Opening.{OpenTold, OpensIn, OpensTold, ToldOpens, main_of};
+ghost use Rattle.host_library.specs.Opening.{OpenTold, OpensIn, OpensTold, ToldOpens, main_of, session_of, told_stop};
 
 use crate::codes::{MISUSE, NO_MEMORY, OK, REFUSED};
 use crate::hosted::Hosted;
@@ -30,7 +30,9 @@ use std::alloc::Global;
 use tree_reader::parse_tree;
 
 /// Why a tree is refused that opens no session without a world; the rest is want of memory.
-fn told_stop(refusal: Refusal) -> Stop<OpenFault> {
+fn told_stop(refusal: Refusal) -> Stop<OpenFault>
+    ensures { result ≡ told_stop refusal }
+{
     match refusal {
         Refusal::World(fault) => Stop::Fault(OpenFault::World(fault)),
         Refusal::Tree(fault) => Stop::Fault(OpenFault::Tree(fault)),
@@ -128,8 +130,11 @@ fn refusal_of(fault: OpenFault) -> Refusal {
     }
 }
 
-/// A session in a block of its own.
-fn boxed(alloc: Global, session: Session) -> Result<Box<Hosted>, NoMemory> {
+/// A session in a block of its own, with no outputs for the next telling.
+fn boxed(alloc: Global, session: Session) -> Result<Box<Hosted>, NoMemory>
+    ensures session { IfOk result (λ hosted. hosted.value.session ≡ session) }
+    ensures outs { IfOk result (λ hosted. hosted.value.outs.items ≡ []) }
+{
     let outs = Vec::new(alloc);
     let hosted = Hosted {
         alloc,
@@ -145,7 +150,11 @@ fn open_boxed(
     tree: &[u8],
     world: &[u8],
     main: &[u8],
-) -> Result<Box<Hosted>, Stop<OpenFault>> {
+) -> Result<Box<Hosted>, Stop<OpenFault>>
+    requires { IsUtf8 main.now }
+    ensures opens { readings.Gives (session_of result) (OpensIn (main_of main.now) tree.now world.now) }
+    ensures outs { IfOk result (λ hosted. hosted.value.outs.items ≡ []) }
+{
     match open(alloc, tree, world, main) {
         Ok(session) => match boxed(alloc, session) {
             Ok(hosted) => Ok(hosted),

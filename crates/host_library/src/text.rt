@@ -1,5 +1,5 @@
 //! Texts, which are copied into room that C gives.
-ghost use Rattle.std.specs.Prelude.{◌≡◌};
+ghost use Rattle.std.specs.Prelude.{◌≡◌, IsTrue, IsUtf8};
 ghost use Rattle.std.specs.Str.{is_utf8};
 ghost use Rattle.host_library.specs.Texts.{TextTold};
 
@@ -14,7 +14,8 @@ pub fn copy_text(text: &[u8], room: &mut [u8]) -> usize
 
 /// Whether these bytes are UTF-8.
 pub fn is_utf8(bytes: &[u8]) -> bool
-    ensures { result ≡ is_utf8 bytes.now }
+    ensures test { result ≡ is_utf8 bytes.now }
+    ensures text { IsTrue result → IsUtf8 bytes.now }
 {
     match str::from_utf8(bytes) {
         Ok(_) => true,

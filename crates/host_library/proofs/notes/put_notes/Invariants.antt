@@ -1,7 +1,7 @@
-use Rattle.std.proofs.Common.{◌≡◌, map}
-use Rattle.host_library.specs.Notes.{note_told, put_front}
+use Rattle.std.proofs.Common.{◌≡◌}
+use Rattle.host_library.specs.Notes.{notes_in}
 use Rattle.host_library.proofs.notes.put_notes.Given as goal
 
 -- so many notes have been put
 abbrev pub invariant-loop-place : goal.invariant-loop-place
-invariant-loop-place l = l.room ≡ put_front l.place (map note_told l.notes) l.fn.room
+invariant-loop-place l = l.room ≡ notes_in l.place l.notes l.fn.room
