@@ -1,8 +1,11 @@
 """What the tests of the clients stand on: the engine that they run, small trees, a clock that stands, and the replay."""
 
+import os
 import pathlib
+import shutil
 import subprocess
 import sys
+import tempfile
 
 import bt_robot
 from stubs import same
@@ -17,9 +20,15 @@ class Skipped(Exception):
 
 
 class Bed:
-    """The engine that is tested."""
+    """The engine that is tested: the program, which also runs sessions again, and where the engine is in the process of the robot,
+    the library as an archive and as one that can be loaded."""
 
     program = ""
+    archive = ""
+    library = ""
+    is_in_process = False
+    # What is made once for all tests.
+    folder = tempfile.TemporaryDirectory()
 
 
 def program_of(program):
@@ -30,14 +39,50 @@ def program_of(program):
     ran = subprocess.run([program, "serve", tree, tree.with_suffix(".world")], stdin=subprocess.DEVNULL, stdout=subprocess.PIPE, text=True)
     if "ready " not in ran.stdout:
         raise Skipped("the program has no command serve")
-    Bed.program = program
     return program
+
+
+def library_of(archive):
+    """The library that can be loaded, made of the archive. Raises Skipped where it can't be made."""
+    if not archive:
+        raise Skipped("no library libbt.a, neither a proved one nor one that is compiled here")
+    if shutil.which("g++") is None:
+        raise Skipped("no g++ (apt-get install g++), and so no library that can be loaded")
+    library = pathlib.Path(Bed.folder.name) / "libbt.so"
+    subprocess.run(["g++", "-shared", "-o", library, "-Wl,--whole-archive", archive, "-Wl,--no-whole-archive"], check=True)
+    return str(library)
+
+
+def over_pipes():
+    """Has the tests run over pipes."""
+    Bed.is_in_process = False
+    Bed.program = program_of(printed("tools/program"))
+
+
+def in_process():
+    """Has the tests run in the process of the robot."""
+    over_pipes()
+    Bed.archive = printed("tools/library")
+    Bed.library = library_of(Bed.archive)
+    Bed.is_in_process = True
+    os.environ["BT_LIBRARY"] = Bed.library
+
+
+def printed(tool):
+    """What a tool of the repository prints in its one line."""
+    return subprocess.run([TOP / tool], stdout=subprocess.PIPE, text=True).stdout.strip()
 
 
 def test(function):
     """Marks a test."""
     function.is_test = True
     return function
+
+
+def of_pipes(function):
+    """Marks a test that speaks of the pipes, or of the process at their other end."""
+    function.is_of_pipes = True
+    return test(function)
 
 
 def tree_file(folder, text, *others):
@@ -71,7 +116,8 @@ class Session:
         if world is not None:
             (folder / "given.world").write_text(world)
             options["world"] = folder / "given.world"
-        how = {"engine": [Bed.program], "record": self.record, "trace": self.trace, "clock": self.clock, "sleep": self.clock.sleep, "patience": PATIENCE}
+        way = {"library": True} if Bed.is_in_process else {"engine": [Bed.program]}
+        how = {**way, "record": self.record, "trace": self.trace, "clock": self.clock, "sleep": self.clock.sleep, "patience": PATIENCE}
         self.robot = bt_robot.Robot(self.tree, **{**how, **options})
 
     def lasting(self, id_, cycles, answer=True):

@@ -6,7 +6,7 @@ import subprocess
 import sys
 
 from bed import PATIENCE, TOP, Bed, check_replay, same, test
-from bt_robot.engine import printed_tree
+from bt_robot.pipes import printed_tree
 from bt_robot.trees import Tree
 
 ROBOT = TOP / "examples/robots/cleaner"
@@ -16,7 +16,7 @@ CONDITIONS = {"BatteryOk", "FloorIsClean"}
 SAID = "SUCCESS after 89.9 s: 0 spots left, 3 bumps, battery 100\n"
 
 
-def prepare(_program):
+def prepare():
     """Nothing more is needed."""
 
 
@@ -29,15 +29,20 @@ def order(trace):
 
 def run(command):
     """A robot's run: its status, and what it says."""
-    env = {"BT": Bed.program, "PATH": f"{pathlib.Path(sys.executable).parent}:/usr/bin:/bin"}
+    env = {"BT": Bed.program, "BT_LIBRARY": Bed.library, "PATH": f"{pathlib.Path(sys.executable).parent}:/usr/bin:/bin"}
     ran = subprocess.run(command, stdout=subprocess.PIPE, text=True, timeout=10 * PATIENCE, env=env)
     return ran.returncode, ran.stdout
+
+
+def in_python():
+    """The robot's program, with the engine where it is tested."""
+    return [ROBOT / "cleaner.py", *(["--library"] if Bed.is_in_process else [])]
 
 
 @test
 def it_cleans_its_floor_and_does_so_in_its_modelled_world(folder):
     record, trace, drawn = folder / "recorded.world", folder / "trace", folder / "drawn.svg"
-    same(run([sys.executable, ROBOT / "cleaner.py", "--record", record, "--trace", trace, "--svg", drawn]), (0, SAID))
+    same(run([sys.executable, *in_python(), "--record", record, "--trace", trace, "--svg", drawn]), (0, SAID))
     check_replay(TREE, record, trace)
     same(drawn.read_text(), (ROBOT / "cleaner.svg").read_text())
     modelled = subprocess.run([Bed.program, "tick", TREE, WORLD], stdout=subprocess.PIPE, text=True, check=True).stdout

@@ -1,9 +1,16 @@
-/// The cases of cpp_client.py: one tree is run, whose leaves print what they do, and then how it ended.
+/// The cases of cpp_client.py: one tree is run, whose leaves print what they do, and then how it ended. The engine is a process, or
+/// with -DIN_PROCESS the library.
 ///
 /// usage: cpp_cases NAME ENGINE TREE RECORD TRACE
 #include <iostream>
 
+#ifdef IN_PROCESS
+#include "bt.hpp"
+#include <csignal>
+#include <unistd.h>
+#else
 #include "bt_robot.hpp"
+#endif
 
 using namespace BT;
 using Time = std::chrono::milliseconds;

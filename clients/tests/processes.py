@@ -10,7 +10,7 @@ import threading
 import time
 
 import bt_robot
-from bed import PATIENCE, Bed, Session, python_host, raised, same, test, tree_file
+from bed import PATIENCE, Bed, Session, of_pipes, python_host, raised, same, test, tree_file
 
 # A session in which two actions run beside one another, one ends with a text, and one is halted.
 TREE = '<Parallel><A s="{s}"/><ReactiveSequence><C/><B/></ReactiveSequence></Parallel>'
@@ -19,7 +19,7 @@ LINES = ["tell 1 4 SUCCESS", "tick 1", "at 50", "tick 1", "tell 1 2 SUCCESS s='i
 EVENTS = 1_000_000
 
 
-def prepare(_program):
+def prepare():
     """Nothing more is needed."""
 
 
@@ -48,7 +48,7 @@ def check_stops(printed):
     same(held, set())
 
 
-@test
+@of_pipes
 def every_prefix_of_a_session_ends_it(folder):
     said = "".join(f"{line}\n" for line in LINES).encode()
     for size in range(len(said) + 1):
@@ -60,7 +60,7 @@ def every_prefix_of_a_session_ends_it(folder):
         assert is_whole or f"refused request End {said[:size].count(10) + 1}\n" in printed, printed
 
 
-@test
+@of_pipes
 def a_wrong_line_stops_the_robot(folder):
     for line, kind in [("tock 1", "BadLine"), ("tick 2", "NoRunner"), ("at 10", "MomentBack"), ("tell 1 1 SUCCESS", "NoLeaf"), ("set x 1", "NoName"),
                        ("tell 1 2 SUCCESS t=1", "NoOutput"), ("at 1000000000001", "Range")]:
@@ -70,7 +70,7 @@ def a_wrong_line_stops_the_robot(folder):
         assert "\ncall 2 halted\n" in printed, printed
 
 
-@test
+@of_pipes
 def a_line_has_65536_bytes_at_most(folder):
     for size, wanted in [(65536, 0), (65537, 11)]:
         line = "tick" + " " * (size - 5) + "1"
@@ -79,7 +79,7 @@ def a_line_has_65536_bytes_at_most(folder):
         check_stops(printed)
 
 
-@test
+@of_pipes
 def a_host_that_is_killed_stops_its_robot(folder):
     for count in range(1, len(LINES) + 1):
         text = "".join(f"{line}\n" for line in LINES[:count])
@@ -114,7 +114,7 @@ def child_of(host):
             yield int(path.parent.name)
 
 
-@test
+@of_pipes
 def an_engine_that_is_killed_is_told_and_all_stops(folder):
     it = Session(folder, "<Parallel><A/><B/></Parallel>")
     it.lasting("A", 9)
@@ -135,7 +135,7 @@ def heed_interrupts():
 def an_interrupted_host_stops_its_robot(folder):
     tree = tree_file(folder, "<A/>")
     host = subprocess.Popen(python_host(folder, f"""
-robot = Robot({str(tree)!r}, engine=[{Bed.program!r}], record={str(folder / "record")!r}, trace={str(folder / "trace")!r})
+robot = Robot({str(tree)!r}, engine=[{Bed.program!r}], library={Bed.is_in_process}, record={str(folder / "record")!r}, trace={str(folder / "trace")!r})
 @robot.action("A")
 def a():
     try:
@@ -172,7 +172,7 @@ sys.exit(engine.wait())
     return [str(path)]
 
 
-@test
+@of_pipes
 def an_engine_that_is_slow_is_waited_for(folder):
     it = Session(folder, "<Sequence><A/><B/></Sequence>", engine=slow_engine(folder, 0.05))
     it.lasting("A", 2)
@@ -181,7 +181,7 @@ def an_engine_that_is_slow_is_waited_for(folder):
     it.check_replay()
 
 
-@test
+@of_pipes
 def an_engine_that_is_stuck_is_lost_and_all_stops(folder):
     it = Session(folder, "<A/>", engine=slow_engine(folder, "0 if b'tick' in line else 3600"), patience=2)
     it.lasting("A", 9)
@@ -190,7 +190,7 @@ def an_engine_that_is_stuck_is_lost_and_all_stops(folder):
     same(it.log, ["A starts", "A stops"])
 
 
-@test
+@of_pipes
 def an_engine_whose_output_is_closed_ends(folder):
     engine = subprocess.Popen([Bed.program, "serve", *files(folder)], stdin=subprocess.PIPE, stdout=subprocess.PIPE, bufsize=0)
     engine.stdout.close()
@@ -202,7 +202,7 @@ def an_engine_whose_output_is_closed_ends(folder):
     engine.stdin.close()
 
 
-@test
+@of_pipes
 def a_million_events_take_no_more_memory_than_a_thousand(folder):
     (folder / "world").write_text("bt-world 1\ncondition C told\n")
     tree = tree_file(folder, "<C/>")

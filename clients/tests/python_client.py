@@ -10,7 +10,7 @@ from bt_robot import FAILURE, RUNNING, SUCCESS, BadLeaf, BadValue, Fault, LeafEr
 from stubs import same
 
 
-def prepare(_program):
+def prepare():
     """Nothing more is needed."""
 
 

@@ -10,7 +10,7 @@ from bed import TOP, Session, test
 SESSIONS, CYCLES = 3, 25
 
 
-def prepare(_program):
+def prepare():
     """Nothing more is needed."""
 
 

@@ -1,5 +1,5 @@
-"""Drives a robot by a behavior tree: the engine `bt serve` runs the tree, and the leaves are functions and classes of the
-robot's own program. How they are written is in README.md beside this folder."""
+"""Drives a robot by a behavior tree: the engine runs the tree, as a process or as a library, and the leaves are functions and
+classes of the robot's own program. How they are written is in README.md beside this folder."""
 
 from .acting import LeafError
 from .engine import EngineLost, Fault, Refused

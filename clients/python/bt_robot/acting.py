@@ -1,7 +1,7 @@
-"""The conditions and the actions of a robot, and what the engine is told of them."""
+"""The conditions and the actions of a robot, and what is to be told of them."""
 
 import contextlib
-from typing import Any, Iterator, List
+from typing import Any, Iterator, Optional
 
 from .leaves import FAILURE, RUNNING, Function, Leaf, NoEntry, Status, status_of
 from .works import Work
@@ -31,17 +31,17 @@ class Condition:
         self.leaf, self.function = leaf, Function(function)
         self.told = FAILURE
 
-    def news(self) -> List[str]:
-        """What the engine is to be told: the answer, where it is another one than before."""
+    def news(self) -> Optional[Status]:
+        """Its answer, where it is another one than was told before."""
         with blamed(self.leaf):
             try:
                 answer = status_of(self.function(self.leaf))
             except NoEntry:
                 answer = FAILURE
         if answer is self.told:
-            return []
+            return None
         self.told = answer
-        return [self.leaf.telling(answer)]
+        return answer
 
 
 class Action:
@@ -51,24 +51,24 @@ class Action:
         self.leaf, self.work = leaf, work
         self.is_running = False
 
-    def start(self) -> List[str]:
-        """Begins it. What the engine is to be told where it has ended at once."""
+    def start(self) -> Optional[Status]:
+        """Begins it. How it has ended, where it has at once."""
         self.leaf.outputs.clear()
         self.is_running = True
         with blamed(self.leaf):
-            return self.told(self.work.start())
+            return self.ended(self.work.start())
 
-    def go_on(self) -> List[str]:
-        """Goes on with it where it runs. What the engine is to be told where it has ended."""
+    def go_on(self) -> Optional[Status]:
+        """Goes on with it where it runs. How it has ended, where it has."""
         with blamed(self.leaf):
-            return self.told(self.work.go_on()) if self.is_running else []
+            return self.ended(self.work.go_on()) if self.is_running else None
 
-    def told(self, status: Status) -> List[str]:
-        """What the engine is told of an answer."""
+    def ended(self, status: Status) -> Optional[Status]:
+        """How it has ended by an answer, where it has."""
         if status is RUNNING:
-            return []
+            return None
         self.is_running = False
-        return [self.leaf.telling(status)]
+        return status
 
     def stop(self) -> None:
         """Stops it where it runs."""

@@ -5,16 +5,17 @@ import contextlib
 import inspect
 import os
 import pathlib
-import tempfile
 import time
 from typing import Any, Callable, Dict, Iterator, List, Optional, Sequence, Set, Type, Union
 
 from .acting import Action, Condition, LeafError
-from .engine import Engine, default_engine, printed_tree
+from .engine import Engine
 from .leaves import IDLE, RUNNING, BadLeaf, Leaf, Status
+from .library import Library
+from .pipes import Pipes, default_engine
 from .rows import Row, World, made_row, made_world
-from .trees import Cell, Tree, is_key
-from .values import Value, literal, read
+from .trees import Node
+from .values import Value
 from .works import Called, Work, form_of
 
 Path = Union[str, "os.PathLike[str]"]
@@ -41,26 +42,30 @@ class Robot:
     """A robot that a tree drives.
 
     `world` is a world script with told rows for the leaves that the robot answers, and rows of other sorts for leaves and facts
-    that are modelled; without it every leaf is the robot's, and the rows are made. `main` names the main tree. `engine` is the
-    command of the engine. `record` names a file for the session as a world script, and `trace` one for its trace. `clock` tells
-    seconds, and `sleep` waits so many. An engine that says nothing for `patience` seconds is lost."""
+    that are modelled; without it every leaf is the robot's, and the rows are made. `main` names the main tree. `record` names a
+    file for the session as a world script, and `trace` one for its trace. `clock` tells seconds, and `sleep` waits so many.
+
+    The engine is a process, `engine` its command, and it is lost where it says nothing for `patience` seconds. With `library` it
+    runs in this process: by True that of the variable BT_LIBRARY, of the package around this file or of the system, else by its
+    file."""
 
     def __init__(self, tree: Path, world: Optional[Path] = None, main: Optional[str] = None, *,
-                 engine: Optional[Sequence[str]] = None, record: Optional[Path] = None,
+                 engine: Optional[Sequence[str]] = None, library: Union[bool, Path] = False, record: Optional[Path] = None,
                  trace: Optional[Path] = None, clock: Callable[[], float] = time.monotonic,
                  sleep: Callable[[float], Any] = time.sleep, patience: float = 5.0):
         self._tree_file, self._world_file, self._main = os.fspath(tree), world, main
-        self._command = list(engine or default_engine())
+        self._command, self._library = list(engine or default_engine()), library
         self._record, self._trace = record, trace
         self._clock, self._sleep, self._patience = clock, sleep, patience
         self._registered: Dict[str, Registered] = {}
         self._files = contextlib.ExitStack()
+        # The last engine, whose entries may be read when its run is over.
         self._engine: Optional[Engine] = None
+        self._is_open = False
         self._conditions: List[Condition] = []
         self._actions: Dict[int, Action] = {}
         # The actions that the last event has started, and that are to begin.
         self._started: List[Action] = []
-        self._entries: Dict[Cell, Value] = {}
         # What the root has answered last.
         self.status = IDLE
 
@@ -85,23 +90,26 @@ class Robot:
 
     def open(self) -> None:
         """Starts the engine, which the first cycle does by itself."""
-        tree = Tree(printed_tree(self._command, self._tree_file, self._main))
-        world = self._world(tree)
+        engine = self._made()
+        world = self._world(engine.nodes)
         self._conditions, self._actions, self._started = [], {}, []
-        for node in tree.leaves():
-            if node.id in world.rows:
+        for node in engine.nodes:
+            if node.is_leaf and node.id in world.rows:
                 self._add(Leaf(node, world.rows[node.id]))
-        self._tree, self._entries = tree, tree.first_entries()
-        record = self._opened(self._record)
-        if record:
-            record.write(world.text)
-        files = [self._tree_file, os.fspath(self._world_file or self._written(world))]
         self._first = self._moment = world.moment
         self._started_at = self._clock()
-        self._engine = Engine(self._command, files, self._main, self._patience, record, self._opened(self._trace))
+        self._engine, self._is_open = engine, True
+        engine.start(world, self._opened(self._record), self._opened(self._trace))
         # What the world's own events have started begins here.
-        self._obey(self._engine.opened())
-        self._event(list(self._begun().values()))
+        self._obey(engine)
+        self._begin(engine)
+        self._obey(engine)
+
+    def _made(self) -> Engine:
+        """The engine, which has read the tree."""
+        if self._library:
+            return Library(self._library, self._tree_file, self._main, self._world_file)
+        return Pipes(self._command, self._tree_file, self._main, self._patience)
 
     def _add(self, leaf: Leaf) -> None:
         """Adds a leaf. Raises Unregistered where it has no function of its sort."""
@@ -114,11 +122,11 @@ class Robot:
         else:
             self._actions[leaf.uid] = Action(leaf, registered.form(leaf, registered.made()))
 
-    def _world(self, tree: Tree) -> World:
+    def _world(self, nodes: Sequence[Node]) -> World:
         """The world script, or one that is made of what is registered."""
         if self._world_file is not None:
             return World(pathlib.Path(self._world_file).read_text("utf-8", "surrogateescape"))
-        nodes = tree.leaves()
+        nodes = [node for node in nodes if node.is_leaf]
         rows: Dict[str, Row] = {}
         for id_ in dict.fromkeys(node.id for node in nodes):
             if id_ in self._registered:
@@ -127,13 +135,6 @@ class Robot:
             else:
                 raise Unregistered(f"nothing is registered for {id_} ({', '.join(node.path for node in nodes if node.id == id_)})")
         return made_world(rows)
-
-    def _written(self, world: World) -> str:
-        """A file with a world script, which stays while the engine may read it."""
-        folder = self._files.enter_context(tempfile.TemporaryDirectory())
-        path = pathlib.Path(folder) / "made.world"
-        path.write_text(world.text)
-        return str(path)
 
     def _opened(self, name: Optional[Path]) -> Any:
         """A file that is written while the robot runs."""
@@ -145,17 +146,21 @@ class Robot:
         """One cycle: senses, asks the actions that run, ticks, stops what was halted and starts what was started. Where an
         action has ended at once, it is told and the tree is ticked again at the same moment; one that does so a second time at
         this moment is told, and the tick is that of the next cycle. Answers what the root has answered last."""
-        with self._open_or_stopped():
-            lines = [*self._now(), *self._news(), *(line for action in self._actions.values() for line in action.go_on())]
+        with self._open_or_stopped() as engine:
+            self._now(engine)
+            self._sense(engine)
+            for action in self._actions.values():
+                self._tell(engine, action.leaf, action.go_on())
             ended_at_once: Set[Action] = set()
             while True:
-                self._event([*lines, "tick 1"])
-                ended = self._begun()
-                if ended.keys() <= ended_at_once:
-                    self._event(list(ended.values()))
+                engine.tick()
+                self._obey(engine)
+                ended = self._begin(engine)
+                if ended <= ended_at_once:
+                    self._obey(engine)
                     return self.status
-                ended_at_once.update(ended)
-                lines = [*ended.values(), *self._news()]
+                ended_at_once |= ended
+                self._sense(engine)
 
     def run(self, hz: float = 10) -> Status:
         """Ticks so many times a second until the root's answer is other than RUNNING, and gives the answer. Where it is
@@ -184,33 +189,37 @@ class Robot:
 
     def halt(self) -> None:
         """Halts the tree, and so all actions that run."""
-        with self._open_or_stopped():
-            self._event([*self._now(), "halt 1"])
+        with self._open_or_stopped() as engine:
+            self._now(engine)
+            engine.halt()
+            self._obey(engine)
             self.status = IDLE
 
     def set(self, fact: str, value: int) -> None:
         """Changes a fact of the world script."""
-        with self._open_or_stopped():
-            self._event([*self._now(), f"set {fact} {int(value)}"])
+        with self._open_or_stopped() as engine:
+            self._now(engine)
+            engine.set(fact, int(value))
+            self._obey(engine)
 
     def entry(self, key: str) -> Optional[Value]:
         """The entry of the main tree's blackboard under this key, none where it has no value."""
-        return self._entries.get((0, key))
+        return None if self._engine is None else self._engine.entry(key)
 
     def close(self) -> None:
         """Ends the run: stops all actions that run, those first that the engine names, in its order, and then the engine. Raises
         the first of what their stops raise."""
-        engine, self._engine = self._engine, None
+        engine, is_open, self._is_open = self._engine, self._is_open, False
         errors: List[LeafError] = []
         with self._files:
-            if engine is None:
+            if engine is None or not is_open:
                 return
-            for action in self._in_order(engine.finish()):
+            named = [self._actions[uid] for uid in engine.finish() if uid in self._actions]
+            for action in dict.fromkeys([*named, *self._actions.values()]):
                 try:
                     action.stop()
                 except LeafError as error:
                     errors.append(error)
-            engine.end()
         if errors:
             raise errors[0]
 
@@ -221,85 +230,62 @@ class Robot:
         self.close()
 
     @contextlib.contextmanager
-    def _open_or_stopped(self) -> Iterator[None]:
+    def _open_or_stopped(self) -> Iterator[Engine]:
         """Opens the run where it is not, and ends it where anything is raised, so that no action is left running."""
         try:
-            if self._engine is None:
+            if not self._is_open:
                 self.open()
-            yield
+            assert self._engine is not None
+            yield self._engine
         except BaseException:
             # (what is raised first is what is told)
             with contextlib.suppress(LeafError):
                 self.close()
             raise
 
-    def _now(self) -> List[str]:
-        """The line of the present moment, where it is later than the one before."""
+    def _now(self, engine: Engine) -> None:
+        """Tells the present moment, where it is later than the one before."""
         moment = self._first + round((self._clock() - self._started_at) * 1000)
-        if moment <= self._moment:
-            return []
-        self._moment = moment
-        return [f"at {moment}"]
+        if moment > self._moment:
+            self._moment = moment
+            engine.at(moment)
 
-    def _news(self) -> List[str]:
-        """What is told of the conditions, each asked by the present values of its inputs."""
-        lines: List[str] = []
+    def _sense(self, engine: Engine) -> None:
+        """Asks each condition by the present values of its inputs, and tells of those that answer otherwise than before."""
         for condition in self._conditions:
             leaf = condition.leaf
-            leaf.inputs = {port: self._value(leaf, port) for port in leaf.row.inputs}
-            lines += condition.news()
-        return lines
+            leaf.inputs = {port: engine.value(leaf.node, port) for port in leaf.row.inputs}
+            self._tell(engine, leaf, condition.news())
 
-    def _value(self, leaf: Leaf, port: str) -> Optional[Value]:
-        """The present value of a leaf's port."""
-        text = leaf.node.ports.get(port)
-        if text is None or not is_key(text):
-            return None if text is None else literal(text)
-        return self._entries.get(self._tree.cell(leaf.node.scope, text[1:-1]))
+    @staticmethod
+    def _tell(engine: Engine, leaf: Leaf, status: Optional[Status]) -> bool:
+        """Tells how a leaf has ended, or whether it holds, where there is something to tell."""
+        if status is not None:
+            engine.tell(leaf, status)
+        return status is not None
 
-    def _event(self, lines: Sequence[str]) -> None:
-        """Has the engine take lines, and does what it answers."""
-        assert self._engine is not None
-        self._obey(self._engine.ask(lines))
-
-    def _begun(self) -> Dict[Action, str]:
-        """Begins what was started, and tells what the engine is to be told of each action that has ended at once."""
+    def _begin(self, engine: Engine) -> Set[Action]:
+        """Begins what was started, and gives those actions that have ended at once."""
         started, self._started = self._started, []
-        return {action: line for action in started for line in action.start()}
+        ended: Set[Action] = set()
+        for action in started:
+            action.leaf.inputs = engine.inputs(action.leaf)
+            if self._tell(engine, action.leaf, action.start()):
+                ended.add(action)
+        return ended
 
-    def _obey(self, lines: Sequence[str]) -> None:
-        """Does what the lines of blocks say: keeps what they tell, stops what was halted, and lists what was started. What was
-        halted in the same event as it was started never begins."""
-        for line in lines:
-            kind, _, rest = line.partition(" ")
-            if kind == "call":
-                self._called(*rest.split(" "))
-            elif kind == "in":
-                uid, port, value = rest.split(" ", 2)
-                if int(uid) in self._actions:
-                    self._actions[int(uid)].leaf.inputs[port] = read(value)
-            elif kind == "board":
-                runner, scope, key, value = rest.split(" ", 3)
-                if runner == "1":
-                    self._entries[int(scope), key] = read(value)
-            elif kind == "root":
-                self.status = Status(rest.split(" ")[1])
-
-    def _called(self, uid: str, what: str, answer: str = "") -> None:
-        """A call of a leaf: it was halted or started, or it was asked, which is nothing new."""
-        action = self._actions.get(int(uid))
-        if action is None:
-            return
-        if what == "halted" and action in self._started:
-            self._started.remove(action)
-        elif what == "halted":
-            action.stop()
-        elif what == "start" and answer == "RUNNING":
-            self._started.append(action)
-
-    def _in_order(self, lines: Sequence[str]) -> List[Action]:
-        """All actions, those first that these lines stop."""
-        words = [line.split(" ") for line in lines]
-        uids = [int(it[-1] if it[0] == "quench" else it[1]) for it in words if it[0] == "quench" or it[-1] == "halted"]
-        named = [self._actions[uid] for uid in uids if uid in self._actions]
-        return list(dict.fromkeys([*named, *self._actions.values()]))
+    def _obey(self, engine: Engine) -> None:
+        """Does what has happened: stops what was halted, and lists what was started. What was halted in the same event as it was
+        started never begins."""
+        for what, uid, answer in engine.happened():
+            action = self._actions.get(uid)
+            if what == "root":
+                self.status = answer or IDLE
+            elif action is None:
+                continue
+            elif what == "started" and answer is RUNNING:
+                self._started.append(action)
+            elif what == "halted" and action in self._started:
+                self._started.remove(action)
+            elif what == "halted":
+                action.stop()

@@ -1,10 +1,14 @@
 /// Cleans a floor, as cleaner.py does: the tree of cleaner.xml drives the robot of simulator.py, 20 times a second. The simulator
-/// is a process of its own, to which the robot's program writes what the wheels do, and which tells what the robot senses.
+/// is a process of its own, to which the robot's program writes what the wheels do, and which tells what the robot senses. The
+/// engine is a process too; compiled with -DIN_PROCESS it is the library.
 ///
 /// usage: cleaner TREE SIMULATOR [RECORD [TRACE]]
 #include <cmath>
 #include <cstdio>
 
+#ifdef IN_PROCESS
+#include "bt.hpp"
+#endif
 #include "bt_robot.hpp"
 
 using namespace BT;

@@ -1,10 +1,10 @@
 #!/usr/bin/env python3
 """Cleans a floor: the tree of cleaner.xml drives the robot of simulator.py, 20 times a second.
 
-usage: cleaner.py [--record FILE] [--trace FILE] [--svg FILE] [--real-time]
+usage: cleaner.py [--record FILE] [--trace FILE] [--svg FILE] [--real-time] [--library]
 
 The clock is that of the simulation, so a minute takes a second, and each run is the same; with --real-time it takes as long
-as it would. The last line tells how it went.
+as it would. With --library the engine is no process of its own. The last line tells how it went.
 """
 import argparse
 import math
@@ -128,7 +128,8 @@ def main():
     parser = argparse.ArgumentParser(description="Cleans a floor.")
     for name in ("--record", "--trace", "--svg"):
         parser.add_argument(name, metavar="FILE")
-    parser.add_argument("--real-time", action="store_true")
+    for name in ("--real-time", "--library"):
+        parser.add_argument(name, action="store_true")
     words = parser.parse_args()
     floor = Floor()
 
@@ -137,7 +138,8 @@ def main():
             time.sleep(seconds)
         floor.step(seconds)
 
-    with Robot(HERE / "cleaner.xml", record=words.record, trace=words.trace, clock=lambda: floor.time, sleep=pass_time) as robot:
+    files = {"record": words.record, "trace": words.trace, "library": words.library}
+    with Robot(HERE / "cleaner.xml", **files, clock=lambda: floor.time, sleep=pass_time) as robot:
         add_moves(robot, floor)
         add_cleaning(robot, floor)
         add_battery(robot, floor)

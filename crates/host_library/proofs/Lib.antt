@@ -1,0 +1,5 @@
+pub mod Missing
+pub mod Opened
+pub mod Putting
+pub mod Steps
+pub mod Utf8s

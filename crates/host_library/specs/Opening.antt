@@ -1,0 +1,60 @@
+-- What the bytes of a tree file and of a world script open for a program in C, which may give no world.
+use Rattle.std.specs.Prelude.{◌≡◌, ◌⊎◌, ℕ, List, [], ◌∷◌, Bool, true, false, MatchBool, Option, Some, None, Result, Ok, Err}
+use Rattle.std.specs.Global.{Global}
+use Rattle.std.specs.declared.boxed.Box.{Box}
+use Rattle.base_texts.specs.declared.stop.Stop.{Stop}
+use Rattle.base_texts.specs.declared.stop.Stop.TheVariants as stop
+use Rattle.cli_refusals.specs.declared.refusal.Refusal.{Refusal}
+use Rattle.cli_refusals.specs.declared.refusal.Refusal.TheVariants as refusal
+use Rattle.cli_serve.specs.Rows.{MadeOf}
+use Rattle.spec_program.specs.declared.tree_fault.TreeFault.{TreeFault}
+use Rattle.spec_program.specs.Gives.{is_too_long}
+use Rattle.spec_program.specs.TreeFiles.{TreeReads}
+use Rattle.spec_session.specs.declared.open_fault.OpenFault.{OpenFault}
+use Rattle.spec_session.specs.declared.open_fault.OpenFault.TheVariants as fault
+use Rattle.spec_session.specs.Opening.{Opens, world_opens}
+use Rattle.spec_session.specs.Sessions.{Sitting}
+use Rattle.spec_tree.specs.declared.term.Tree.{Tree}
+use Rattle.spec_world.specs.declared.world.World.{World}
+use Rattle.spec_world_file.specs.declared.world_fault.WorldFault.{WorldFault}
+use Rattle.host_library.specs.declared.hosted.Hosted.{Hosted}
+use Rattle.host_library.specs.Codes.{misuse, no_memory, ok, refused}
+
+-- the main tree that is asked for by these bytes; by no bytes none is
+abbrev pub main_of : List ℕ → Option (List ℕ)
+main_of [] = None
+main_of (b ∷ bytes) = Some (b ∷ bytes)
+
+-- what a tree file reads as opens this without a world script: the session in the world of its told rows
+abbrev pub ToldOpens : Result Tree TreeFault → List ℕ → Result Sitting OpenFault → Type 0
+ToldOpens (Ok tree) bytes sitting = (made : Result World WorldFault) × MadeOf bytes tree.term made × (sitting ≡ world_opens made tree)
+ToldOpens (Err f) bytes sitting = sitting ≡ Err (fault.Tree f)
+
+-- the bytes of a tree file open this without a world script
+abbrev pub OpensTold : Option (List ℕ) → List ℕ → Result Sitting OpenFault → Type 0
+OpensTold main tree sitting =
+    MatchBool (is_too_long tree) (sitting ≡ Err fault.TreeTooLong)
+    ((read : Result Tree TreeFault) × TreeReads main tree read × ToldOpens read tree sitting)
+
+-- the bytes of a tree file and of a world script open this; no bytes of a world script say that there is none
+abbrev pub OpensIn : Option (List ℕ) → List ℕ → List ℕ → Result Sitting OpenFault → Type 0
+OpensIn main tree [] sitting = OpensTold main tree sitting
+OpensIn main tree (b ∷ world) sitting = Opens main tree (b ∷ world) sitting
+
+-- why a tree opens no session whose leaves are all told what they answer; what refuses no file is want of memory
+abbrev pub told_stop : Refusal → Stop OpenFault
+told_stop (refusal.World f) = stop.Fault (fault.World f)
+told_stop (refusal.Tree f) = stop.Fault (fault.Tree f)
+told_stop _ = stop.NoMemory
+
+-- the session in the block of its own that was opened
+abbrev pub session_of : Result (Box Hosted Global) (Stop OpenFault) → Result Sitting (Stop OpenFault)
+session_of (Ok hosted) = Ok hosted.value.session
+session_of (Err stopped) = Err stopped
+
+-- C is told this of the opening with a main tree that is asked for by UTF-8, or by other bytes
+abbrev pub OpenTold : Bool → List ℕ → List ℕ → List ℕ → ℕ → Type 0
+OpenTold false tree world main code = code ≡ misuse
+OpenTold true tree world main code =
+    ((code ≡ ok) × (s : Sitting) × OpensIn (main_of main) tree world (Ok s))
+    ⊎ (((code ≡ refused) × (f : OpenFault) × OpensIn (main_of main) tree world (Err f)) ⊎ (code ≡ no_memory))

@@ -1,0 +1,12 @@
+# Versions from 1 on fit those of the same first number, and below that those of the same second one.
+set(PACKAGE_VERSION "@VERSION@")
+string(REGEX MATCH "^(0\\.[0-9]+|[1-9][0-9]*)\\." bt_ours "${PACKAGE_VERSION}.")
+string(REGEX MATCH "^(0\\.[0-9]+|[1-9][0-9]*)\\." bt_theirs "${PACKAGE_FIND_VERSION}.")
+if(PACKAGE_FIND_VERSION VERSION_GREATER PACKAGE_VERSION OR (bt_theirs AND NOT bt_ours STREQUAL bt_theirs))
+  set(PACKAGE_VERSION_COMPATIBLE FALSE)
+else()
+  set(PACKAGE_VERSION_COMPATIBLE TRUE)
+  if(PACKAGE_FIND_VERSION VERSION_EQUAL PACKAGE_VERSION)
+    set(PACKAGE_VERSION_EXACT TRUE)
+  endif()
+endif()
