@@ -45,6 +45,7 @@ const CAUSES = {
   NoInput: ([port]) => `its row uses the input ${port}, which has no value here`,
   Overflow: () => "a number is outside 64 bits",
   ZeroDivisor: () => "a division by 0",
+  Range: () => "the length of an action is negative or too long",
   NotWhole: () => "a division that leaves a remainder",
   Mixed: () => "a number and a text together, or a text where a number is needed",
   TextTooLong: () => "a text of more than 4,096 bytes",

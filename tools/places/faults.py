@@ -179,13 +179,13 @@ def signs_of(sign: str, target: Optional[Token], part: Tuple[Token, ...], kind: 
 def in_row(world: World, row: Row, ended: Faulted) -> Iterator[Suspect]:
     """The expressions and effects of a leaf's row from which the cause can come."""
     kind = ended.cause[0]
-    for expr in row.exprs:
+    for expr in row.exprs[:1] if kind == "Range" else row.exprs:
         if kind == "NoInput":
             wanted = [word for word in expr.names() if word.text == ended.cause[-1]]
             if wanted:
                 yield Suspect("the row of ", Place(world.source, *wanted[0].span()))
                 return
-        elif kind == "Mixed" or any(token.is_sign(*SIGNS.get(kind, ())) for token in expr.read.tokens):
+        elif kind in ("Mixed", "Range") or any(token.is_sign(*SIGNS.get(kind, ())) for token in expr.read.tokens):
             if kind == "Mixed" and not any(word.text in row.ports for word in expr.names()):
                 continue
             yield Suspect("the row of ", Place(world.source, expr.start, expr.start + len(expr.text)))

@@ -130,8 +130,8 @@ class Planned:
 
 def faulty_parts(row: Row, cause: str) -> Iterator[Tuple[int, int]]:
     """The parts of a row from which a cause can come."""
-    for expr in row.exprs:
-        if any(token.is_sign(*SIGNS.get(cause, ())) for token in expr.read.tokens):
+    for expr in row.exprs[:1] if cause == "Range" else row.exprs:
+        if cause == "Range" or any(token.is_sign(*SIGNS.get(cause, ())) for token in expr.read.tokens):
             yield expr.start, expr.start + len(expr.text)
     for effect in row.sets.values() if cause == "Overflow" else ():
         if effect.sign == "+=":

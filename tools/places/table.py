@@ -100,5 +100,7 @@ CAUSES: Dict[str, Kind] = {
     "Mixed": Kind("a number and a text together, or a text where a number is needed",
                   "compare texts with texts, and calculate with numbers"),
     "TextTooLong": Kind("a text of more than 4,096 bytes", "keep the texts short"),
+    "Range": Kind("the length of an action is negative, or above 1,000,000,000,000 milliseconds",
+                  "bound it in its row: `timed (n < 0 ? 0 : n)`"),
     "BadPort": Kind("the key of a port has no number that it takes", "write a number of the port's range to the entry first"),
 }

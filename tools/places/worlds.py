@@ -22,7 +22,7 @@ MOST = {"facts": 1024, "rows": 1024, "goals": 64, "ports": 8, "needs": 16, "sets
 FORMS = {
     "fact": ["fact NAME INT"],
     "condition": ["condition ID is FACT OP INT", "condition ROW when EXPR", "condition ROW told"],
-    "action": ["action ROW timed MS", "action ROW replay MS OUTCOMES", "action ROW gate EXPR", "action ROW told"],
+    "action": ["action ROW timed MS", "action ROW timed (EXPR)", "action ROW replay MS OUTCOMES", "action ROW gate EXPR", "action ROW told"],
     "fails": ["fails EXPR"],
     "needs": ["needs ID"],
     "sets": ["sets NAME = INT", "sets NAME += INT"],
@@ -266,6 +266,21 @@ class Line:
             if token.kind == "text":
                 self.bad((start + token.start, start + token.end), "an expression of a world script has no texts, numbers only")
         return Expr(text.decode("latin-1"), start, read)
+
+    def opens(self) -> bool:
+        """Whether the rest of the line begins with a parenthesis."""
+        return self.taken < len(self.words) and self.words[self.taken].text.startswith("(")
+
+    def group(self) -> Expr:
+        """The rest of the line, an expression in parentheses."""
+        read = self.expr()
+        depth, tokens = 0, read.read.tokens
+        for token in tokens:
+            depth += {"(": 1, ")": -1}.get(token.text, 0)
+            if depth == 0 and token is not tokens[-1]:
+                self.bad((read.start + token.end, self.end), "the line goes on where the parentheses of the length have ended",
+                         [f"write `({read.text})`"])
+        return read
 
     def outputs(self) -> List[Tuple[Word, Word]]:
         """The rest of the line, outputs `NAME=VALUE` with white space between: each name with its value."""
@@ -551,12 +566,12 @@ class World:
         self.rows[id_.text] = Row(id_, [], "is", test=Test(fact.text, sign.text, number_))
 
     def read_action(self, line: Line) -> None:
-        """`action ROW timed MS`, `action ROW replay MS OUTCOMES`, `action ROW gate EXPR` or `action ROW told`"""
+        """`action ROW timed MS`, `action ROW timed (EXPR)`, `action ROW replay MS OUTCOMES`, `action ROW gate EXPR` or `action ROW told`"""
         word = line.next("ID")
         sort = line.sign("timed", "replay", "gate", "told").text
         head = self.head(line, word)
-        exprs = [line.expr()] if sort == "gate" else []
-        length = line.canonical("number of milliseconds") if sort in ("timed", "replay") else None
+        exprs = [line.expr()] if sort == "gate" else [line.group()] if sort == "timed" and line.opens() else []
+        length = line.canonical("number of milliseconds") if sort in ("timed", "replay") and not exprs else None
         if sort == "replay":
             self.outcomes(line)
         line.stop()

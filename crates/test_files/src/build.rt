@@ -146,7 +146,9 @@ fn asked_text(
 {
     match main {
         Some(id) => {
-            let name = Name::copied(alloc, id.as_bytes())?;
+            let Ok(name) = Name::copied(alloc, id.as_bytes()) else {
+                return String::from_str(alloc, "no memory");
+            };
             built_text(alloc, elements, models, Some(&name))
         }
         None => built_text(alloc, elements, models, None),

@@ -1,6 +1,6 @@
 //! Which models the files of trees have, and the first fault of each.
 
-use base_texts::{Name, Stop};
+use base_texts::{Name, NoMemory, Stop};
 use spec_tree_file::{Elements, ManifestFault};
 use std::alloc::{AllocError, Global};
 use std::test::Fail;
@@ -8,9 +8,8 @@ use tree_elements::read_elements;
 use tree_manifest::{KnownModel, manifest_of, model};
 
 /// A name of this text.
-fn name(alloc: Global, text: &str) -> Result<Name, AllocError> {
-    let bytes = Vec::from_slice(alloc, text.as_bytes())?;
-    Name::of(bytes)
+fn name(alloc: Global, text: &str) -> Result<Name, NoMemory> {
+    Name::copied(alloc, text.as_bytes())
 }
 
 /// The text of a name.
@@ -59,7 +58,9 @@ fn file_text(alloc: Global, file: &[u8]) -> Result<String, AllocError> {
     if file.len() > 1_048_576 {
         return String::from_str(alloc, "too long");
     }
-    let id = name(alloc, "A")?;
+    let Ok(id) = name(alloc, "A") else {
+        return String::from_str(alloc, "no memory");
+    };
     match read_elements(alloc, file) {
         Ok(elements) => elements_text(alloc, &elements, &id),
         Err(_) => String::from_str(alloc, "no elements"),

@@ -17,6 +17,7 @@ fn sort_text(alloc: Global, sort: &RowSort) -> Result<String, AllocError> {
         RowSort::Is { fact, op, value } => format!(in alloc; "is {fact} {op:?} {value}"),
         RowSort::When(_) => String::from_str(alloc, "when"),
         RowSort::Timed { ms, fails } => format!(in alloc; "timed {ms} {}", fails.is_some()),
+        RowSort::TimedBy { fails, .. } => format!(in alloc; "timed by {}", fails.is_some()),
         RowSort::Replay { ms, outcomes } => {
             format!(in alloc; "replay {ms} {:?}", outcomes.list())
         }
@@ -223,7 +224,7 @@ fn whole_files(rt: HostRuntime) -> Result<(), Fail> {
 }
 
 /// Scripts, with their lines between slashes, and the world of each.
-static ACCEPTED: [(&str, &str); 20] = [
+static ACCEPTED: [(&str, &str); 22] = [
     (
         "fact x -9223372036854775808 / fact y 9223372036854775807",
         "x -9223372036854775808; y 9223372036854775807; [] 1",
@@ -239,6 +240,14 @@ static ACCEPTED: [(&str, &str); 20] = [
     (
         "fact x 0 / condition C is x < 2 / action A(speed) timed 300 / # how / needs C / sets x = -1 /  / fails speed > x / out left = 2 * speed / out right = x",
         "x 0; C is 0 Less 2 []; A,speed timed 300 true [0] 0=-1 left: right:; [] 1",
+    ),
+    (
+        "fact x 0 / action A(p) timed (p * x) / fails p > x / sets x = 1",
+        "x 0; A,p timed by true [] 0=1; [] 1",
+    ),
+    (
+        "action A timed  ( 1 )\t / action B timed ((1) + (2))",
+        "A timed by false []; B timed by false []; [] 1",
     ),
     ("action A replay 0 SF", "A replay 0 [true, false] []; [] 1"),
     (
@@ -333,6 +342,16 @@ condition A(p when 1 => BadLine 2
 condition A (p) when 1 => BadLine 2
 action A timed => BadLine 2
 action A timed 1 2 => BadLine 2
+action A timed ( => BadLine 2
+action A timed () => BadLine 2
+action A timed (1) 2 => BadLine 2
+action A timed (1) + (2) => BadLine 2
+action A timed ((1) + (2) => BadLine 2
+action A timed -(1) => BadLine 2
+action A timed('a') => BadLine 2
+action A timed ('a') => BadLine 2
+action A timed (99999999999999999999) => BadLine 2
+action A(p) replay (p) S => BadLine 2
 action A replay 1 => BadLine 2
 action A replay 1 SX => BadLine 2
 action A gate 1.5 => BadLine 2
@@ -396,11 +415,13 @@ runners 2 / halt 3 => Range 3
 fact x 1 / set x 9223372036854775808 => Range 3
 fact x 1 / fact x 2 => DoubleName 3
 action A timed 1 / condition A when 1 => DoubleName 3
+action A timed (1) / action A timed (1) => DoubleName 3
 action A timed 1 / action A timed 1 => DoubleName 3
 action Script timed 1 => DoubleName 2
 condition root when 1 => DoubleName 2
 action A(p,q,p) timed 1 => DoubleName 2
 action A timed 1 / fails 1 / fails 1 => DoubleName 4
+action A timed (1) / fails 1 / fails x => DoubleName 4
 fact x 1 / condition C is x == 1 / action A timed 1 / needs C / needs C => DoubleName 6
 fact x 1 / action A timed 1 / sets x = 1 / sets x = 2 => DoubleName 5
 fact x 1 / action A timed 1 / sets x = 1 / sets x += 1 => DoubleName 5
@@ -417,6 +438,9 @@ condition A is x == 1 / fact x 1 => NoName 2
 condition A when aaaaaaaaaaaaaaaaaaaaaaaaaaaaaaaaaaaaaaaaaaaaaaaaaaaaaaaaaaaaaaaaaa => NoName 2
 action A(p) gate p == x => NoName 2
 action A timed 1 / fails x => NoName 3
+action A timed (x) / fact x 1 => NoName 2
+action A(p) timed (p + x) => NoName 2
+fact x 1 / action A timed (x) / fails y => NoName 4
 action A timed 1 / needs A => NoName 3
 condition W when 1 / action A timed 1 / needs W => NoName 4
 action A timed 1 / sets x = 1 => NoName 3

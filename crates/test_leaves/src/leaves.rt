@@ -523,6 +523,61 @@ fn actions_answer_by_their_rows(rt: HostRuntime) -> Result<(), NoMemory> {
                 "0 at 100, 0 at 399, 0 at 400, 0 at 400",
                 "Running; Running; Success; Running; facts; outputs []; held",
             ),
+            // a length that is worked out at each start, and kept until the end
+            (
+                "fact x 300 / action A timed (x) / sets x = 5",
+                "",
+                "0 at 100, 0 at 399, 0 at 400, 0 at 400, 0 at 404, 0 at 405",
+                "Running; Running; Success; Running; Running; Success; facts 5; outputs []",
+            ),
+            (
+                "fact x 300 / action A timed (x) / sets x = 5",
+                "",
+                "0 at 0, 1 at 0, 1 at 300, 0 at 299, 0 at 300",
+                "Running; Running; Success; Running; Success; facts 5; outputs []",
+            ),
+            (
+                "fact x 0 / action A timed (x) / fails 1 - x",
+                "",
+                "0 at 7",
+                "Failure; facts 0; outputs []",
+            ),
+            (
+                "action A(p) timed (p - 1)",
+                "1000000000001",
+                "0 at 0, 0 at 999999999999, 0 at 1000000000000",
+                "Running; Running; Success; facts; outputs []",
+            ),
+            (
+                "action A(p) timed (p)",
+                "1000000000001",
+                "0 at 0",
+                "Broken(Range); facts; outputs []",
+            ),
+            (
+                "fact x -1 / action A timed (x) / sets x = 0",
+                "",
+                "0 at 0, 0 at 1",
+                "Broken(Range); Broken(Range); facts -1; outputs []",
+            ),
+            (
+                "action A(p) timed (p)",
+                "-",
+                "0 at 0",
+                "Broken(NoInput { place: 0 }); facts; outputs []",
+            ),
+            (
+                "action A(p) timed (p)",
+                "text",
+                "0 at 0",
+                "Broken(Mixed); facts; outputs []",
+            ),
+            (
+                "fact x 0 / action A timed (1/x)",
+                "",
+                "0 at 0",
+                "Broken(ZeroDivisor); facts 0; outputs []",
+            ),
             // `fails` with a fault, found when the time is over: the instance is still held
             (
                 "fact x 0 / action A timed 10 / fails 1/x / sets x = 5",

@@ -262,6 +262,67 @@ fn effects_add(rt: HostRuntime) -> Result<(), Fail> {
     Ok(())
 }
 
+const KEPT_LENGTH: &str = "\
+tick 1 at 0
+call 1 start RUNNING
+node 1 IDLE RUNNING
+root 1 RUNNING
+set x 0 at 0
+fact x 0
+tick 1 at 99
+call 1 running RUNNING
+root 1 RUNNING
+set x 7 at 99
+fact x 7
+tick 1 at 100
+call 1 running SUCCESS
+node 1 RUNNING SUCCESS
+root 1 SUCCESS
+node 1 SUCCESS IDLE
+tick 1 at 100
+call 1 start RUNNING
+node 1 IDLE RUNNING
+root 1 RUNNING
+tick 1 at 107
+call 1 running SUCCESS
+node 1 RUNNING SUCCESS
+root 1 SUCCESS
+node 1 SUCCESS IDLE
+finish 1 at 107
+Done";
+
+const NO_LENGTH: &str = "\
+tick 1 at 0
+node 1 IDLE RUNNING
+call 2 start RUNNING
+node 2 IDLE RUNNING
+fault 1 3 Range
+quench 1 2
+Fault";
+
+/// Actions whose length is an expression: it is worked out where they begin.
+#[test]
+fn lengths_are_worked_out_once(rt: HostRuntime) -> Result<(), Fail> {
+    compare_rows(
+        &rt,
+        rt.alloc(),
+        &[
+            (
+                "<A/>",
+                "fact x 100 / action A timed (x) / tick 1 / set x 0 / at 99 / tick 1 / set x 7 / at 100 / tick 1 / \
+                tick 1 / at 107 / tick 1",
+                KEPT_LENGTH,
+            ),
+            (
+                "<Parallel><A/><B far=\"-1\"/></Parallel>",
+                "action A timed (1) / action B(far) timed (far * 100) / tick 1",
+                NO_LENGTH,
+            ),
+        ],
+    )?;
+    Ok(())
+}
+
 /// Worlds without a tick: nothing is called.
 #[test]
 fn runs_without_ticks_have_no_calls(rt: HostRuntime) -> Result<(), Fail> {

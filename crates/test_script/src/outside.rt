@@ -106,8 +106,8 @@ fn sinks_over_writers(rt: HostRuntime) -> Result<(), Fail> {
 }
 
 /// A name of these bytes.
-fn name(alloc: Global, text: &str) -> Result<Name, AllocError> {
-    Ok(Name::copied(alloc, text.as_bytes())?)
+fn name(alloc: Global, text: &str) -> Result<Name, NoMemory> {
+    Name::copied(alloc, text.as_bytes())
 }
 
 /// The files with these names and texts.

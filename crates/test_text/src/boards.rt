@@ -207,7 +207,7 @@ fn puts_change_one_slot(rt: HostRuntime) -> Result<(), NoMemory> {
         put_text,
         &[(
             MIXED,
-            "None Some(Int(5)) None None Some(Text(Txt { bytes: [111, 110] })) Some(Int(7)) ",
+            "None Some(Int(5)) None None Some(Text(Txt { bytes: Shared { owner: [111, 110] } })) Some(Int(7)) ",
         )],
     )
 }

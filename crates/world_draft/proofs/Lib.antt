@@ -1,5 +1,6 @@
 pub mod AboutLines
 pub mod AboutRounds
+pub mod AddedFails
 pub mod Checked
 pub mod Copied
 pub mod Named

@@ -84,9 +84,8 @@ impl Draft {
     {
         let known = knows_all(facts, &self.ports, &expr);
         match &mut self.sort {
-            RowSort::Timed { fails, .. } | RowSort::TimedBy { fails, .. } => {
-                set_fails(fails, known, expr)
-            }
+            RowSort::Timed { fails, .. } => set_fails(fails, known, expr),
+            RowSort::TimedBy { fails, .. } => set_fails(fails, known, expr),
             _ => {
                 drop(expr);
                 Err(Stop::Fault(WorldKind::BadLine))
@@ -196,11 +195,7 @@ impl Draft {
 
 /// Sets when an action fails, where no line says it yet. The fault `DoubleName` where one does, `NoName` where not all
 /// names of the expression are known.
-fn set_fails(
-    fails: &mut Option<Expr>,
-    known: bool,
-    expr: Expr,
-) -> Result<(), Stop<WorldKind>>
+fn set_fails(fails: &mut Option<Expr>, known: bool, expr: Expr) -> Result<(), Stop<WorldKind>>
     ensures { Leaves result fails.new (λ said. said ≡ fails_said fails.old known expr) }
 {
     if fails.is_some() {

@@ -188,6 +188,7 @@ impl Reading {
         match sort {
             RowSort::When(e) => knows_all(&self.facts, ports, e),
             RowSort::Gate(e) => knows_all(&self.facts, ports, e),
+            RowSort::TimedBy { length, .. } => knows_all(&self.facts, ports, length),
             _ => true,
         }
     }

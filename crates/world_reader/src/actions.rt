@@ -94,8 +94,8 @@ pub fn read_condition(
     }
 }
 
-/// Reads `action ROW timed MS`, `action ROW timed (EXPR)`, `action ROW replay MS OUTCOMES`, `action ROW gate EXPR` or `action ROW told`, from after
-/// `action`.
+/// Reads `action ROW timed MS`, `action ROW timed (EXPR)`, `action ROW replay MS OUTCOMES`, `action ROW gate EXPR` or
+/// `action ROW told`, from after `action`.
 pub fn read_action(alloc: Global, reading: &mut Reading, text: &[u8]) -> Result<(), Stop<WorldKind>>
     requires { list_all is_line_byte text.now ≡ true }
     ensures { Leaves result reading.new (AfterForm reading.old (action_line text.now)) }
@@ -270,7 +270,7 @@ fn read_timed(
     requires { list_all is_line_byte text.now ≡ true }
     ensures { Leaves result reading.new (AfterForm reading.old (option_and_then (timed_line text.now) (file.head_in row.now))) }
 {
-    if text.starts_with(b"(".as_slice()) {
+    if text.starts_with(b"(") {
         read_length(alloc, reading, row, text)
     } else {
         read_fixed(alloc, reading, row, text)
@@ -284,7 +284,8 @@ fn read_fixed(
     row: &[u8],
     text: &[u8],
 ) -> Result<(), Stop<WorldKind>>
-    ensures { Leaves result reading.new (AfterForm reading.old (option_and_then (λ head. number_line (TimedLine head) text.now) (file.head_in row.now))) }
+    ensures { Leaves result reading.new (AfterForm reading.old
+        (option_and_then (λ head. number_line (TimedLine head) text.now) (file.head_in row.now))) }
 {
     let Some(head) = head_in(alloc, row)? else {
         return Err(Stop::Fault(WorldKind::BadLine));

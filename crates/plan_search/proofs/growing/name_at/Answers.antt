@@ -10,4 +10,4 @@ returns-in-Some c =
     (λ name is. λ world tree st has. is ∙ ap (λ (o : Option ℕ). option_map_or (id_of c.args.rows.now) o []) (c.in-Some.ensures world tree st has)) c.id_of.ensures
 
 pub returns-in-None : goal.returns-in-None
-returns-in-None c = λ world tree st has. c.of.ensures ∙ c.new.ensures.items ∙ ap (λ (o : Option ℕ). option_map_or (id_of c.args.rows.now) o []) (c.in-None.ensures world tree st has)
+returns-in-None c = λ world tree st has. c.empty.ensures ∙ ap (λ (o : Option ℕ). option_map_or (id_of c.args.rows.now) o []) (c.in-None.ensures world tree st has)

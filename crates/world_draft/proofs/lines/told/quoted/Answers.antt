@@ -6,7 +6,7 @@ use Rattle.world_draft.proofs.lines.told.quoted.Goals as goal
 
 pub returns-in-Ok-clause-found : goal.returns-in-Ok-clause-found
 returns-in-Ok-clause-found c =
-    text_read _ c.in-Some.bytes.items c.in-Some.rest.now c.of.result (ap (option_map (λ x. (x.0.items, x.1.now))) (sym c.in-Some.is) ∙ c.in_ok-bytes.ensures.found) c.of.ensures
+    text_read _ c.in-Some.bytes.items c.in-Some.rest.now c.in_ok-of-in-Ok.field-0 (ap (option_map (λ x. (x.0.items, x.1.now))) (sym c.in-Some.is) ∙ c.in_ok-bytes.ensures.found) c.in_ok-of-in-Ok.ensures
     (subst IsUtf8 c.as_slice.ensures.value c.in-Ok.ensures.cases.1)
 
 pub returns-in-Some-clause-found : goal.returns-in-Some-clause-found
