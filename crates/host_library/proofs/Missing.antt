@@ -31,7 +31,7 @@ too_large : (first : Bool) (runner runners : ℕ) → runners < runner → Wrong
 too_large first runner runners large =
     let not : nat_le runner runners ≡ false = grind (arith, nat_tests) in
     subst (λ (b : Bool). Wrong (unless (first && b) NoRunner)) (sym not) (none first)
-    where
+  where
     none : (b : Bool) → Wrong (unless (b && false) NoRunner)
     none true = (NoRunner, refl)
     none false = (NoRunner, refl)

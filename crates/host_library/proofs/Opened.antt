@@ -1,5 +1,5 @@
 -- What is opened of a tree whose leaves are all told what they answer, and what C is told of an opening.
-use Rattle.std.proofs.Common.{◌≡◌, ℕ, List, Bool, true, false, Option, Some, None, Ok, Err, inl, inr, refl, sym, subst}
+use Rattle.std.proofs.Common.{◌≡◌, ℕ, List, [], ◌∷◌, Bool, true, false, Option, Some, None, Ok, Err, inl, inr, refl, sym, subst}
 use Rattle.std.specs.Prelude.{Result, MatchBool}
 use Rattle.std.specs.Global.{Global}
 use Rattle.std.specs.declared.boxed.Box.{Box}
@@ -25,7 +25,8 @@ use Rattle.spec_world.specs.declared.world.World.{World}
 use Rattle.tree_elements.proofs.Verdicts.{not_both}
 use Rattle.world_reader.specs.Readings as readings
 use Rattle.host_library.specs.declared.hosted.Hosted.{Hosted}
-use Rattle.host_library.specs.Opening.{OpenTold, OpensIn, OpensTold, ToldOpens, main_of, session_of, told_stop}
+use Rattle.host_library.specs.Opening.{Explained, OpenTold, OpensIn, OpensTold, SomeTold, ToldOpens, main_of, session_of, told_stop}
+use Rattle.host_library.specs.Texts.{TextTold}
 
 -- the world of its told rows is joined with the tree
 pub joined_told : (bytes : List ℕ) (tree : Tree) (world : World) (given : Result Sitting (Stop OpenFault)) → MadeOf bytes tree.term (Ok world)
@@ -79,3 +80,21 @@ pub refused_as : (tree world main : List ℕ) (is_text : Bool) (given : Result (
 refused_as tree world main is_text given f so is opens =
     let refused = subst (λ (g : Result (Box Hosted Global) (Stop OpenFault)). readings.Gives (session_of g) (OpensIn (main_of main) tree world)) is opens in
     subst (λ (b : Bool). OpenTold b tree world main 4) (sym so) (inr (inl (refl, f, refused)))
+
+-- a room into which nothing was put
+untouched : (room : List ℕ) → TextTold [] room 0 room
+untouched [] = (refl, refl)
+untouched (b ∷ room) = (refl, refl)
+
+-- nothing is told
+pub unsaid : (tree world main room : List ℕ) (is_text : Bool) → Explained is_text tree world main room 0 room
+unsaid tree world main room true = inr (untouched room)
+unsaid tree world main room false = untouched room
+
+-- something is told, of files that are refused
+pub said_why : (tree world main room after : List ℕ) (size : ℕ) (is_text : Bool) (given : Result Sitting (Stop OpenFault)) (f : OpenFault) → is_text ≡ true
+    → given ≡ Err (stop.Fault f) → readings.Gives given (OpensIn (main_of main) tree world) → SomeTold room size after
+    → Explained is_text tree world main room size after
+said_why tree world main room after size is_text given f so is opens told =
+    let refused = subst (λ (g : Result Sitting (Stop OpenFault)). readings.Gives g (OpensIn (main_of main) tree world)) is opens in
+    subst (λ (b : Bool). Explained b tree world main room size after) (sym so) (inl (f, refused, told))

@@ -19,6 +19,7 @@ use Rattle.spec_world.specs.declared.world.World.{World}
 use Rattle.spec_world_file.specs.declared.world_fault.WorldFault.{WorldFault}
 use Rattle.host_library.specs.declared.hosted.Hosted.{Hosted}
 use Rattle.host_library.specs.Codes.{misuse, no_memory, ok, refused}
+use Rattle.host_library.specs.Texts.{TextTold}
 
 -- the main tree that is asked for by these bytes; by no bytes none is
 abbrev pub main_of : List ℕ → Option (List ℕ)
@@ -58,3 +59,13 @@ OpenTold false tree world main code = code ≡ misuse
 OpenTold true tree world main code =
     ((code ≡ ok) × (s : Sitting) × OpensIn (main_of main) tree world (Ok s))
     ⊎ (((code ≡ refused) × (f : OpenFault) × OpensIn (main_of main) tree world (Err f)) ⊎ (code ≡ no_memory))
+
+-- C is told some text
+abbrev pub SomeTold : List ℕ → ℕ → List ℕ → Type 0
+SomeTold room size after = (said : List ℕ) × TextTold said room size after
+
+-- C is told this of why the files are refused: some text only where they are, and none of a main tree that is asked for by no UTF-8
+abbrev pub Explained : Bool → List ℕ → List ℕ → List ℕ → List ℕ → ℕ → List ℕ → Type 0
+Explained false tree world main room size after = TextTold [] room size after
+Explained true tree world main room size after =
+    ((f : OpenFault) × OpensIn (main_of main) tree world (Err f) × SomeTold room size after) ⊎ TextTold [] room size after

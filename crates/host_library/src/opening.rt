@@ -11,7 +11,7 @@ ghost use Rattle.spec_tree.specs.Limits.{most_file_bytes};
 ghost use Rattle.spec_tree.specs.Trees.{IsValid};
 ghost use Rattle.spec_world.specs.Runnable.{IsRunnableWorld};
 ghost use Rattle.world_reader.specs.Readings as readings;
-ghost use Rattle.host_library.specs.Opening.{OpenTold, OpensIn, OpensTold, ToldOpens, main_of, session_of, told_stop};
+ghost use Rattle.host_library.specs.Opening.{Explained, OpenTold, OpensIn, OpensTold, SomeTold, ToldOpens, main_of, session_of, told_stop};
 
 use crate::codes::{MISUSE, NO_MEMORY, OK, REFUSED};
 use crate::hosted::Hosted;
@@ -101,12 +101,7 @@ fn open_in(
 }
 
 /// Opens a session with the main tree that is asked for by these bytes; by none where there are none.
-fn open(
-    alloc: Global,
-    tree: &[u8],
-    world: &[u8],
-    main: &[u8],
-) -> Result<Session, Stop<OpenFault>>
+fn open(alloc: Global, tree: &[u8], world: &[u8], main: &[u8]) -> Result<Session, Stop<OpenFault>>
     requires { IsUtf8 main.now }
     ensures { readings.Gives result (OpensIn (main_of main.now) tree.now world.now) }
 {
@@ -192,7 +187,17 @@ pub extern "C" fn bt_open(
     }
 }
 
+/// Copies the line of a refusal; nothing for want of memory.
+fn copy_refusal(alloc: Global, fault: OpenFault, room: &mut [u8]) -> usize
+    ensures { SomeTold room.old result room.new }
+{
+    let mut sink = SureSink::new(alloc);
+    let _exit = write_refusal(alloc, &refusal_of(fault), &mut sink);
+    copy_text(sink.list(), room)
+}
+
 /// Writes why these files open no session; nothing where they open one.
+#[tactic(auto, using(crate::proofs::Opened::unsaid))]
 #[unsafe(no_mangle)]
 pub extern "C" fn bt_explain(
     alloc: Global,
@@ -200,7 +205,9 @@ pub extern "C" fn bt_explain(
     world: &[u8],
     main_id: &[u8],
     room: &mut [u8],
-) -> usize {
+) -> usize
+    ensures { Explained (is_utf8 main_id.now) tree.now world.now main_id.now room.old result room.new }
+{
     if !is_utf8(main_id) {
         return 0;
     }
@@ -209,11 +216,7 @@ pub extern "C" fn bt_explain(
             drop(session);
             0
         }
-        Err(Stop::Fault(fault)) => {
-            let mut sink = SureSink::new(alloc);
-            let _exit = write_refusal(alloc, &refusal_of(fault), &mut sink);
-            copy_text(sink.list(), room)
-        }
+        Err(Stop::Fault(fault)) => copy_refusal(alloc, fault, room),
         Err(Stop::NoMemory) => 0,
     }
 }
