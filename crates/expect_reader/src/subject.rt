@@ -22,11 +22,7 @@ pub struct Subject<'a> {
 }
 
 /// What lines speak of that are about the run of this tree in this world.
-pub fn subject_of<'a>(
-    alloc: Global,
-    tree: &Tree,
-    world: &'a World,
-) -> Result<Subject<'a>, NoMemory>
+pub fn subject_of<'a>(alloc: Global, tree: &Tree, world: &'a World) -> Result<Subject<'a>, NoMemory>
     ensures { IfOk result (λ subject. subject_seen subject ≡ subject_of tree.now world.entry.now) }
 {
     Ok(Subject {

@@ -8,7 +8,8 @@ use test_bed::{given_by, shelf_with_rules};
 /// The words of the command over the files `T`, `W` and `R`.
 const EXPECT: [&str; 4] = ["expect", "T", "W", "R"];
 
-const TREE: &str = "<root BTCPP_format=\"4\"><BehaviorTree ID=\"M\"><Sequence><A/><B name=\"x\"/></Sequence></BehaviorTree></root>";
+const TREE: &str =
+    "<root BTCPP_format=\"4\"><BehaviorTree ID=\"M\"><Sequence><A/><B name=\"x\"/></Sequence></BehaviorTree></root>";
 
 const WORLD: &str = "bt-world 1\nfact f 1\nrunners 2\naction A timed 0\naction B timed 0\n";
 

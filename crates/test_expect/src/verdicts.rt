@@ -20,7 +20,8 @@ struct Row {
 /// A condition that turns false while an action runs.
 const GUARDED: &str = "<ReactiveSequence><Ok/><B/></ReactiveSequence>";
 
-const TURNS: &str = "fact ok 1 / condition Ok is ok == 1 / action B timed 100 / tick 1 / at 10 / set ok 0 / tick 1";
+const TURNS: &str =
+    "fact ok 1 / condition Ok is ok == 1 / action B timed 100 / tick 1 / at 10 / set ok 0 / tick 1";
 
 static ROWS: [Row; 20] = [
     // Facts after events.
@@ -166,13 +167,16 @@ static ROWS: [Row; 20] = [
 ];
 
 /// A tree that opens another one twice, and calls a leaf of its own too.
-const TWO_TREES: &str = "<root BTCPP_format=\"4\" main_tree_to_execute=\"M\"><BehaviorTree ID=\"M\"><Sequence><A/><SubTree ID=\"S\" name=\"left\"/><SubTree ID=\"S\"/></Sequence></BehaviorTree><BehaviorTree ID=\"S\"><A name=\"two\"/></BehaviorTree></root>";
+const TWO_TREES: &str =
+    "<root BTCPP_format=\"4\" main_tree_to_execute=\"M\"><BehaviorTree ID=\"M\"><Sequence><A/><SubTree ID=\"S\" name=\"left\"/><SubTree ID=\"S\"/></Sequence></BehaviorTree><BehaviorTree ID=\"S\"><A name=\"two\"/></BehaviorTree></root>";
 
 const ONE_TICK: &str = "bt-world 1\naction A timed 0\ntick 1\n";
 
-const BY_PATHS: &str = "bt-expect 1\r\nstarts A == 3\nstarts 'A' == 1\nstarts 'two' == 2\nstarts 'left/two' == 1\n  starts\t'S/*'   == 1\nstarts '*/two' == 2\nstarts '*' == 3\norder 'A' before 'left/t\\x77o'\norder 'left/*' before 'A'";
+const BY_PATHS: &str =
+    "bt-expect 1\r\nstarts A == 3\nstarts 'A' == 1\nstarts 'two' == 2\nstarts 'left/two' == 1\n  starts\t'S/*'   == 1\nstarts '*/two' == 2\nstarts '*' == 3\norder 'A' before 'left/t\\x77o'\norder 'left/*' before 'A'";
 
-const PATHS_TOLD: &str = "pass 2\npass 3\npass 4\npass 5\npass 6\npass 7\npass 8\npass 9\nfail 10 0\nexpected 8 passed, 1 failed\nUnmet";
+const PATHS_TOLD: &str =
+    "pass 2\npass 3\npass 4\npass 5\npass 6\npass 7\npass 8\npass 9\nfail 10 0\nexpected 8 passed, 1 failed\nUnmet";
 
 /// What is told of a run of this tree file over this world script by this file of expectations, with the exit after it.
 fn told(alloc: Global, tree: &[u8], world: &[u8], expect: &[u8]) -> Result<String, NoMemory> {

@@ -123,9 +123,7 @@ pub fn join_and_expect<S: Shelf, K: Sink, C: Clock, D: Drivers>(
     match watched_by(alloc, tree, world, expect) {
         Ok(watching) => {
             let events = world.events.list();
-            Ok(exit_of(run_watched(
-                alloc, watching, &names, runs, events, outside,
-            )))
+            Ok(exit_of(run_watched(alloc, watching, &names, runs, events, outside)))
         }
         Err(stopped) => {
             drop(runs);
