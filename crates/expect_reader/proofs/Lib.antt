@@ -1,2 +1,4 @@
 pub mod OneReading
+pub mod Picking
+pub mod Placing
 pub mod Saying

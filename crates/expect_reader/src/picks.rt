@@ -15,15 +15,36 @@ fn is_pattern_byte(byte: u8) -> bool
     byte == b'/' || byte == b'*'
 }
 
+/// Whether a quoted text is a pattern.
+fn is_pattern(text: &[u8]) -> bool
+    ensures { result ≡ list_any is_pattern_byte text.now }
+{
+    text.iter().any(|byte| is_pattern_byte(*byte))
+}
+
 /// The leaves that a quoted text tells.
 fn quoted_pick(text: Name) -> Pick
     ensures { result ≡ quoted_pick text }
 {
-    let is_pattern = text.list().iter().any(|byte| is_pattern_byte(*byte));
-    if is_pattern {
+    if is_pattern(text.list()) {
         Pick::ByPath(text)
     } else {
         Pick::ByName(text)
+    }
+}
+
+/// The leaves that a quoted text of these bytes tells, and what follows. None where it is not UTF-8, or where what follows does
+/// not stand apart.
+fn pick_quoted(bytes: Vec<u8>, rest: &[u8]) -> Result<Option<(Pick, &[u8])>, NoMemory>
+    ensures { IfOk result (λ found. option_map (λ x. (x.0, x.1.now)) found ≡ pick_quoted (bytes.items, rest.now)) }
+{
+    if is_apart(rest) {
+        match str::from_utf8(bytes.as_slice()) {
+            Ok(_) => Ok(Some((quoted_pick(Name::of(bytes)?), after_gap(rest)))),
+            Err(_) => Ok(None),
+        }
+    } else {
+        Ok(None)
     }
 }
 
@@ -32,14 +53,10 @@ fn after_quote(alloc: Global, text: &[u8]) -> Result<Option<(Pick, &[u8])>, NoMe
     ensures { IfOk result (λ found.
         option_map (λ x. (x.0, x.1.now)) found ≡ option_and_then pick_quoted (file.text_to_quote text.now)) }
 {
-    let Some((bytes, rest)) = text_to_quote(alloc, text)? else {
-        return Ok(None);
-    };
-    if str::from_utf8(bytes.as_slice()).is_err() || !is_apart(rest) {
-        return Ok(None);
+    match text_to_quote(alloc, text)? {
+        Some((bytes, rest)) => pick_quoted(bytes, rest),
+        None => Ok(None),
     }
-    let pick = quoted_pick(Name::of(bytes)?);
-    Ok(Some((pick, after_gap(rest))))
 }
 
 /// The leaves at the front of a text, by an ID or a quoted text, and what follows. None where there are none.

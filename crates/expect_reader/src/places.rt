@@ -1,4 +1,5 @@
-ghost use Rattle.std.specs.Prelude.{◌≡◌, ◌++◌, IfOk, OnOk};
+ghost use Rattle.std.specs.Prelude.{◌≡◌, ◌++◌, IfOk, IsUtf8, OnOk};
+ghost use Rattle.std.specs.List.{flat_map};
 ghost use Rattle.spec_tree.specs.declared.term.Term.{out-Term};
 ghost use Rattle.spec_tree_file.specs.Substitutions.{inside};
 ghost use Rattle.spec_expect.specs.Leaves.{places_below, places_of};
@@ -8,12 +9,13 @@ use spec_expect::Place;
 use spec_tree::{Kind, Term, Tree};
 use std::alloc::Global;
 
-/// A text and a name after it.
-fn joined(alloc: Global, above: &Name, name: &[u8]) -> Result<Name, NoMemory>
-    ensures { IfOk result (λ path. path ≡ above.now ++ name.now) }
+/// A text and another one after it.
+fn joined(alloc: Global, above: &Name, text: &[u8]) -> Result<Name, NoMemory>
+    requires { IsUtf8 text.now }
+    ensures { IfOk result (λ path. path ≡ above.now ++ text.now) }
 {
     let mut path = Vec::from_slice(alloc, above.list())?;
-    path.extend_from_slice(name)?;
+    path.extend_from_slice(text)?;
     Name::of(path)
 }
 
@@ -40,19 +42,18 @@ fn place_of(alloc: Global, node: &Term, above: &Name) -> Result<Place, NoMemory>
     })
 }
 
-/// Adds the nodes of a term in pre-order, where paths begin with this text.
+/// Adds the nodes below a node in pre-order, where their paths begin with this text. The error is want of memory.
 fn add_places(
     alloc: Global,
-    term: &Term,
+    node: &Term,
     above: &Name,
     places: &mut Vec<Place>,
 ) -> Result<(), NoMemory>
-    ensures { OnOk result (places.new.items ≡ places.old.items ++ places_below term.now above.now) }
+    ensures { OnOk result (places.new.items ≡ places.old.items ++ flat_map (λ t. places_below t above.now) (out-Term node.now).children) }
 {
-    places.push(place_of(alloc, term, above)?)?;
-    let below = inside(alloc, term, above)?;
-    for child in term.children.list() {
-        add_places(alloc, child, &below, places)?;
+    for child in node.children.list() {
+        places.push(place_of(alloc, child, above)?)?;
+        add_places(alloc, child, &inside(alloc, child, above)?, places)?;
     }
     Ok(())
 }
@@ -63,6 +64,8 @@ pub fn places_of(alloc: Global, tree: &Tree) -> Result<Vec<Place>, NoMemory>
 {
     let above = Name::empty();
     let mut places = Vec::new(alloc);
-    add_places(alloc, &tree.term, &above, &mut places)?;
+    places.push(place_of(alloc, &tree.term, &above)?)?;
+    let below = inside(alloc, &tree.term, &above)?;
+    add_places(alloc, &tree.term, &below, &mut places)?;
     Ok(places)
 }

@@ -1,4 +1,5 @@
-ghost use Rattle.std.specs.Prelude.{◌≡◌, [], IfOk};
+ghost use Rattle.std.specs.Prelude.{◌≡◌, [], IfOk, bytes_eq};
+ghost use Rattle.std.specs.List.{list_any};
 ghost use Rattle.spec_world_file.specs.WorldFile as file;
 ghost use Rattle.spec_world_file.specs.WorldFile.{is_known};
 ghost use Rattle.spec_expect.specs.ExpectFile.{subject_of};
@@ -36,10 +37,17 @@ pub fn subject_of<'a>(
 }
 
 /// Whether a fact has this name.
+fn has_fact(facts: &[Fact], name: &Name) -> bool
+    ensures { result ≡ list_any (λ fact. bytes_eq name.now fact.name) facts.now }
+{
+    facts.iter().any(|fact| *name == fact.name)
+}
+
+/// Whether a name is that of a fact, where there are no ports.
 fn is_fact(facts: &[Fact], name: &Name) -> bool
     ensures { result ≡ is_known [] facts.now name.now }
 {
-    facts.iter().any(|fact| fact.name == *name)
+    has_fact(facts, name)
 }
 
 /// Whether each name of the expression is that of a fact.
