@@ -14,7 +14,7 @@ use Rattle.expect_reader.specs.declared.subject.Subject.{Subject}
 
 -- what contracts see of what lines speak of
 abbrev pub subject_seen : Subject → file.Subject
-subject_seen s = record { facts = s.facts.now; runners = s.runners; places = s.places.items }
+subject_seen s = record { facts = s.facts.now; runners = s.runners; places = s.places.now }
 
 -- the value or the fault is one that is said; want of memory may come anywhere
 abbrev pub GivesSaid : {X F : Type 0} → Result X (Stop F) → (Result X F → Type 0) → Type 0

@@ -119,7 +119,7 @@ fn read_only(
         return Err(Stop::Fault(ExpectKind::BadLine));
     }
     let expr = expression(alloc, rest)?;
-    let leaves = leaves_in(alloc, subject.places.as_slice(), pick)?;
+    let leaves = leaves_in(alloc, subject.places, pick)?;
     let expr = over_facts(subject.facts, expr)?;
     Ok(Expectation::StartsOnly { leaves, expr })
 }
@@ -141,7 +141,7 @@ fn read_count(
     let Some(op) = comparison(op) else {
         return Err(Stop::Fault(ExpectKind::BadLine));
     };
-    let leaves = leaves_in(alloc, subject.places.as_slice(), pick)?;
+    let leaves = leaves_in(alloc, subject.places, pick)?;
     let count = moment_of(number)?;
     Ok(Expectation::Starts { leaves, op, count })
 }
@@ -164,7 +164,7 @@ fn read_ends(
     let Some(answer) = end_in(answer) else {
         return Err(Stop::Fault(ExpectKind::BadLine));
     };
-    let leaves = leaves_in(alloc, subject.places.as_slice(), pick)?;
+    let leaves = leaves_in(alloc, subject.places, pick)?;
     let ms = moment_of(number)?;
     Ok(Expectation::Ends { leaves, answer, ms })
 }
@@ -207,8 +207,8 @@ fn read_never(
     ensures { GivesSaid result (FormSays (subject_seen subject.now) (then_pick (codes "with") NeverWithLine (pick.now, text.now))) }
 {
     let other = last_pick(alloc, "with", text)?;
-    let first = leaves_in(alloc, subject.places.as_slice(), pick)?;
-    let second = leaves_in(alloc, subject.places.as_slice(), &other)?;
+    let first = leaves_in(alloc, subject.places, pick)?;
+    let second = leaves_in(alloc, subject.places, &other)?;
     Ok(Expectation::NeverWith { first, second })
 }
 
@@ -222,8 +222,8 @@ fn read_order(
     ensures { GivesSaid result (FormSays (subject_seen subject.now) (then_pick (codes "before") OrderLine (pick.now, text.now))) }
 {
     let other = last_pick(alloc, "before", text)?;
-    let first = leaves_in(alloc, subject.places.as_slice(), pick)?;
-    let second = leaves_in(alloc, subject.places.as_slice(), &other)?;
+    let first = leaves_in(alloc, subject.places, pick)?;
+    let second = leaves_in(alloc, subject.places, &other)?;
     Ok(Expectation::Order { first, second })
 }
 

@@ -5,6 +5,7 @@ ghost use Rattle.world_draft.specs.Readings.{Leaves};
 ghost use Rattle.expect_reader.specs.Reading.{GivesItems, located, subject_seen};
 
 use crate::forms::read_content;
+use crate::places::places_of;
 use crate::subject::{Subject, subject_of};
 use base_texts::{Items, Stop};
 use spec_expect::{ExpectFault, ExpectKind, Expected};
@@ -101,7 +102,8 @@ pub fn read_expected(
     ensures reads { GivesItems result (ReadsExpected tree.now world.now bytes.now) }
     ensures over { IfOk result (AreOver world.now.facts) }
 {
-    let subject = subject_of(alloc, tree, world)?;
+    let places = places_of(alloc, tree)?;
+    let subject = subject_of(world, places.as_slice());
     let parts = parts(alloc, bytes, b'\n')?;
     read_file(alloc, &subject, without_rest(parts.as_slice()))
 }
