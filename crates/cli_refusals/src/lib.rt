@@ -6,5 +6,5 @@ mod line;
 mod refusal;
 
 pub use lent::Outside;
-pub use line::kind_word;
+pub use line::{join_refusal, kind_word, tree_refusal, world_refusal};
 pub use refusal::{Refusal, write_refusal};
