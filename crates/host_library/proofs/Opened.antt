@@ -54,6 +54,7 @@ refused_told bytes tree (refusal.TooLong which) of told = absurd told
 refused_told bytes tree (refusal.Join f) of told = absurd told
 refused_told bytes tree refusal.NoGoal of told = absurd told
 refused_told bytes tree (refusal.Rules f) of told = absurd told
+refused_told bytes tree (refusal.Expect f) of told = absurd told
 refused_told bytes tree (refusal.Ground f) of told = absurd told
 
 when_short : (main : Option (List ℕ)) (bytes : List ℕ) (tree : Tree) (sitting : Result Sitting OpenFault) (b : Bool) → b ≡ false

@@ -1,4 +1,5 @@
 pub mod Events
+pub mod Files
 pub mod Labelled
 pub mod Misuses
 pub mod Opened

@@ -1,11 +1,12 @@
 //! What a host reads of a session. No read allocates memory.
-ghost use Rattle.std.specs.Prelude.{◌≡◌, slice_index_or};
+ghost use Rattle.std.specs.Prelude.{◌≡◌, count_by, slice_index_or};
 ghost use Rattle.std.specs.Option.{option_copied};
 ghost use Rattle.base_tables.specs.SlotTables.{slot_table};
 ghost use Rattle.spec_tree.specs.Boards.{port_of};
 ghost use Rattle.spec_run.specs.Ports.{given_by};
 ghost use Rattle.run_arena.specs.Blocks.{seen};
 ghost use Rattle.run_arena.specs.Rosters.{instances_of};
+ghost use Rattle.spec_run.specs.Joins.{is_leaf};
 ghost use Rattle.spec_run.specs.Leaf.{fresh};
 ghost use Rattle.host_session.specs.Five.{states_of};
 ghost use Rattle.host_session.specs.Numbered.{numbered};
@@ -64,6 +65,16 @@ fn given<'a>(ports: &'a [Port], name: &Name) -> Option<&'a PortValue>
     Some(&ports.iter().find(|port| port.name == *name)?.value)
 }
 
+/// How many of these nodes are leaves for which rows stand.
+fn leaf_count(labels: &[Label]) -> usize
+    ensures { result ≡ count_by (λ label. is_leaf label.kind) labels.now }
+{
+    labels
+        .iter()
+        .filter(|label| matches!(label.kind, Kind::Leaf))
+        .count()
+}
+
 impl Session {
     ghost use Rattle.std.specs.Prelude.{◌<◌, [], count_by, length};
     ghost use Rattle.spec_run.specs.Joins.{is_leaf};
@@ -109,10 +120,7 @@ impl Session {
     pub fn leaves(&self) -> usize
         ensures { result ≡ count_by (λ label. is_leaf label.kind) (labels self.now.tree) }
     {
-        self.labels
-            .iter()
-            .filter(|label| matches!(label.kind, Kind::Leaf))
-            .count()
+        leaf_count(&self.labels)
     }
 
     /// Lends what is told of a node. None where there is no node of this uid.
