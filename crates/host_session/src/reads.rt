@@ -65,14 +65,18 @@ fn given<'a>(ports: &'a [Port], name: &Name) -> Option<&'a PortValue>
     Some(&ports.iter().find(|port| port.name == *name)?.value)
 }
 
-/// How many of these nodes are leaves for which rows stand.
+/// Whether a node is a leaf for which a row stands.
+fn is_leaf(label: &Label) -> bool
+    ensures { result ≡ is_leaf label.now.kind }
+{
+    matches!(label.kind, Kind::Leaf)
+}
+
+/// How many of these nodes are.
 fn leaf_count(labels: &[Label]) -> usize
     ensures { result ≡ count_by (λ label. is_leaf label.kind) labels.now }
 {
-    labels
-        .iter()
-        .filter(|label| matches!(label.kind, Kind::Leaf))
-        .count()
+    labels.iter().filter(|label| is_leaf(label)).count()
 }
 
 impl Session {
