@@ -1,5 +1,5 @@
 -- The nodes of a term in pre-order: its own, and then those of its children.
-use Rattle.std.proofs.Common.{◌≡◌, ℕ, Bool, ◌||◌, List, [], ◌∷◌, ◌++◌, map, refl, ap, sym, ◌∙◌}
+use Rattle.std.proofs.Common.{◌≡◌, ℕ, Bool, ◌||◌, List, [], ◌∷◌, ◌++◌, map, refl, ap, ◌∙◌}
 use Rattle.std.specs.List.{flat_map, list_any}
 use Rattle.spec_tree.specs.declared.term.Term.{Term, fold_out-Term, out-Term}
 use Rattle.spec_tree_file.specs.Substitutions.{inside}

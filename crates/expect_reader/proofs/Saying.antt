@@ -1,5 +1,5 @@
 -- What is given of a line is what the definition says.
-use Rattle.std.proofs.Common.{◌≡◌, ℕ, Bool, true, false, not, ◌==◌, List, [], ◌∷◌, length, Option, Some, None, Result, Ok, Err, ℤ, refl, sym, ap, ◌∙◌, subst, if◌then◌else◌}
+use Rattle.std.proofs.Common.{◌≡◌, ℕ, Bool, true, false, ◌==◌, List, length, Option, Some, None, Result, Ok, Err, refl, sym, ap, ◌∙◌, subst, if◌then◌else◌}
 use Rattle.std.specs.Prelude.{bytes_eq, codes, option_and_then, option_map}
 use Rattle.std.specs.Str.Parse.{signed_digits_value}
 use Rattle.base_texts.specs.declared.stop.Stop.{Stop}
@@ -14,7 +14,7 @@ use Rattle.spec_expect.specs.declared.expect_fault.ExpectKind.TheVariants.{BadLi
 use Rattle.spec_expect.specs.declared.expectation.Expectation.{Expectation}
 use Rattle.spec_expect.specs.declared.place.Pick.{Pick}
 use Rattle.spec_expect.specs.declared.place.Place.{Place}
-use Rattle.spec_expect.specs.ExpectFile.{FormSays, Line, Says, SaysOf, StartsOnlyLine, Subject, by_expr, last_pick, leaves_in, only_line, pick_at_front, then_pick}
+use Rattle.spec_expect.specs.ExpectFile.{FormSays, Line, Says, SaysOf, StartsOnlyLine, Subject, last_pick, leaves_in, only_line, pick_at_front, then_pick}
 use Rattle.expect_reader.specs.Reading.{GivesSaid, IsBadLine, ReadsAs, alone, last_after}
 
 -- what is given is what is said of an expression that was read

@@ -9,7 +9,8 @@ use Rattle.spec_expect.specs.declared.expect_fault.ExpectKind.{ExpectKind}
 use Rattle.spec_expect.specs.declared.expect_fault.ExpectKind.TheVariants.{BadLine}
 use Rattle.spec_expect.specs.declared.place.Pick.{Pick}
 use Rattle.spec_expect.specs.ExpectFile as file
-use Rattle.spec_expect.specs.ExpectFile.{Line, NeverWithLine, OrderLine, count_line, ends_line, only_line, pick_at_front, then_pick}
+use Rattle.spec_expect.specs.declared.expectation.Expected.{Expected}
+use Rattle.spec_expect.specs.ExpectFile.{AfterLines, Line, NeverWithLine, OrderLine, count_line, ends_line, only_line, pick_at_front, then_pick}
 use Rattle.expect_reader.specs.declared.subject.Subject.{Subject}
 
 -- what contracts see of what lines speak of
@@ -61,3 +62,10 @@ leaves_line kind text =
     else if bytes_eq kind (codes "never") then option_and_then (then_pick (codes "with") NeverWithLine) (pick_at_front text)
     else if bytes_eq kind (codes "order") then option_and_then (then_pick (codes "before") OrderLine) (pick_at_front text)
     else None
+
+-- ---- Lines
+
+-- whatever these lines read as after what was read before them, all lines read as, of which the first has the number 2
+abbrev pub IsAfter : file.Subject → List (List ℕ) → List Expected → ℕ → List (List ℕ) → List Expected → Type 0
+IsAfter s all first line rest before =
+    (read : Result (List Expected) ExpectFault) → AfterLines s line rest before read → AfterLines s 2 all first read

@@ -1,4 +1,4 @@
-use Rattle.std.proofs.Common.{◌≡◌, Err, Ok, Result, ap}
+use Rattle.std.proofs.Common.{Err, Ok, Result, ap}
 use Rattle.std.proofs.lemmas.Result.{err_from_is_err_and}
 use Rattle.base_texts.specs.Results.{◌>>=◌}
 use Rattle.spec_script.specs.declared.syntax.Expr.{Expr}

@@ -1,4 +1,4 @@
-use Rattle.std.proofs.Common.{◌≡◌, ◌∙◌, ℕ, Bool, List, Err, Ok, Option, Result, Some, ap, rules, subst, sym, true}
+use Rattle.std.proofs.Common.{◌≡◌, ℕ, List, Err, Ok, Result, Some, ap, rules, subst, true}
 use Rattle.std.proofs.lemmas.Result.{err_from_is_err_and}
 use Rattle.std.specs.Prelude.{option_map}
 use Rattle.std.specs.Str.Parse.{signed_digits_value}

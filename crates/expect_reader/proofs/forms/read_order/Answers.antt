@@ -1,4 +1,4 @@
-use Rattle.std.proofs.Common.{◌≡◌, ◌∙◌, Bool, List, Err, Ok, Result, Some, ap}
+use Rattle.std.proofs.Common.{Bool, List, Err, Ok, Result}
 use Rattle.std.proofs.lemmas.Result.{err_from_is_err_and}
 use Rattle.std.specs.Prelude.{codes}
 use Rattle.base_texts.specs.Results.{◌>>=◌}

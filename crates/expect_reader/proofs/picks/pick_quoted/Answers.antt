@@ -1,4 +1,4 @@
-use Rattle.std.proofs.Common.{◌≡◌, ◌∙◌, ℕ, List, Some, ap, subst, sym}
+use Rattle.std.proofs.Common.{◌∙◌, ℕ, List, Some, ap, subst, sym}
 use Rattle.std.specs.Str.{IsUtf8}
 use Rattle.spec_expect.specs.declared.place.Pick.{Pick}
 use Rattle.spec_expect.specs.ExpectFile.{quoted_pick}

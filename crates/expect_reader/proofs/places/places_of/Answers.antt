@@ -1,4 +1,4 @@
-use Rattle.std.proofs.Common.{◌≡◌, ◌∙◌, ◌++◌, List, ℕ, [], ◌∷◌, ap, sym}
+use Rattle.std.proofs.Common.{◌∙◌, ◌++◌, List, ℕ, [], ◌∷◌, ap, sym}
 use Rattle.std.specs.List.{flat_map}
 use Rattle.spec_tree.specs.declared.term.Term.{Term, out-Term}
 use Rattle.spec_expect.specs.declared.place.Place.{Place}

@@ -1,4 +1,4 @@
-use Rattle.std.proofs.Common.{◌∙◌, ℕ, Bool, sym}
+use Rattle.std.proofs.Common.{◌∙◌, sym}
 use Rattle.std.specs.Prelude.{bytes_eq}
 use Rattle.spec_world.specs.declared.world.Fact.{Fact}
 use Rattle.expect_reader.proofs.Placing.{any_map}
