@@ -76,7 +76,13 @@ fn is_leaf(label: &Label) -> bool
 fn leaf_count(labels: &[Label]) -> usize
     ensures { result ≡ count_by (λ label. is_leaf label.kind) labels.now }
 {
-    labels.iter().filter(|label| is_leaf(label)).count()
+    let mut count = 0;
+    for label in labels {
+        if is_leaf(label) {
+            count += 1;
+        }
+    }
+    count
 }
 
 impl Session {
