@@ -68,13 +68,14 @@ fn copy_sort(alloc: Global, sort: &RowSort) -> Result<RowSort, NoMemory>
 fn copy_row(alloc: Global, row: &Row) -> Result<Row, NoMemory>
     ensures { IfOk result (λ copied. copied ≡ row.now) }
 {
+    // The sort is the last to be copied, since it would be dropped by its kinds wherever a later copy is refused.
     Ok(Row {
         id: row.id.copy(alloc)?,
         ports: copy_names(alloc, row.ports.list())?,
-        sort: copy_sort(alloc, &row.sort)?,
         needs: Items::of(Vec::from_slice(alloc, row.needs.list())?),
         sets: Items::of(Vec::from_slice(alloc, row.sets.list())?),
         outs: copy_outs(alloc, row.outs.list())?,
+        sort: copy_sort(alloc, &row.sort)?,
     })
 }
 
