@@ -66,9 +66,11 @@ then_is between line pick text = by_word (bytes_eq (word 0 text) between) where
   by_length : (b : Bool) (found : Pick × List ℕ) → (if b then Some (line pick found.0) else None) ≡ option_map (line pick) (if b then Some found.0 else None)
   by_length true found = refl
   by_length false found = refl
+
   by_found : (o : Option (Pick × List ℕ)) → option_and_then (last_pick (line pick)) o ≡ option_map (line pick) (option_and_then alone o)
   by_found None = refl
   by_found (Some found) = by_length (length found.1 == 0) found
+
   by_word : (b : Bool) → (if b then option_and_then (last_pick (line pick)) (pick_at_front (following 1 text)) else None) ≡ option_map (line pick) (if b then option_and_then alone (pick_at_front (following 1 text)) else None)
   by_word true = by_found (pick_at_front (following 1 text))
   by_word false = refl

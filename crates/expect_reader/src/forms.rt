@@ -54,11 +54,7 @@ fn read_always(
 }
 
 /// Reads `at MS EXPR`.
-fn read_at(
-    alloc: Global,
-    subject: &Subject,
-    text: &[u8],
-) -> Result<Expectation, Stop<ExpectKind>>
+fn read_at(alloc: Global, subject: &Subject, text: &[u8]) -> Result<Expectation, Stop<ExpectKind>>
     requires { list_all is_line_byte text.now ≡ true }
     ensures { GivesSaid result (FormSays (subject_seen subject.now) (at_line text.now)) }
 {

@@ -98,6 +98,7 @@ module _ (names : List Fact) (facts : List ℤ) (e : Expectation) (Keeps : List 
   steps_last past s w none keeps kept = by_loss (is_lost names e (so_far facts (past ++ s ∷ []))) refl where
     lost_is : (b : Bool) → is_lost names e (so_far facts (past ++ s ∷ [])) ≡ b → (next_of past s w).lost ≡ cond b (Some s.at) None
     lost_is b is = ap (λ (x : Watched). x.lost) (whole past s w none keeps) ∙ ap (λ (x : Bool). cond x (Some s.at) None) (sym (by.lost past s w.memo keeps kept) ∙ is)
+
     by_loss : (b : Bool) → is_lost names e (so_far facts (past ++ s ∷ [])) ≡ b → Steps names facts e Keeps past s (next_of past s w)
     by_loss true is = inl (lost_is true is, is)
     by_loss false is = inr (
@@ -193,10 +194,10 @@ past_more : (ms : ℕ) (past : List Sight) (s : Sight) → not (are_until ms (pa
 past_more ms past s =
     ap not (are_until_both ms past (s ∷ []) ∙ ap (λ (b : Bool). are_until ms past && (b && true)) (le_not_lt s.at ms))
     ∙ by_parts (are_until ms past) (nat_lt ms s.at) where
-  by_parts : (a b : Bool) → not (a && (not b && true)) ≡ (not a || b)
-  by_parts true true = refl
-  by_parts true false = refl
-  by_parts false b = refl
+      by_parts : (a b : Bool) → not (a && (not b && true)) ≡ (not a || b)
+      by_parts true true = refl
+      by_parts true false = refl
+      by_parts false b = refl
 
 -- the events up to a moment, after one more
 until_next : (ms : ℕ) (past : List Sight) (s : Sight) → until ms (past ++ s ∷ []) ≡ cond (not (are_until ms past) || nat_lt ms s.at) (until ms past) (past ++ s ∷ [])
@@ -290,14 +291,18 @@ module _ (ms : ℕ) (told : Note → Bool) where
     choice a b e f =
         ap (λ (x : Bool). told_in (happenings_in (cond (not x || nat_lt ms s.at) (until ms past) (past ++ s ∷ [])))) e
         ∙ ap (λ (x : Bool). told_in (happenings_in (cond (not a || x) (until ms past) (past ++ s ∷ [])))) f
+
     in_time : (b : Bool) → nat_lt ms s.at ≡ b → (told_until past || (not b && told_in s.happenings)) ≡ (told_until past || (nat_le s.at ms && told_in s.happenings))
     in_time b f = ap (λ (x : Bool). told_until past || (x && told_in s.happenings)) (sym (le_not_lt s.at ms ∙ ap not f))
+
     met_before : (a b : Bool) → (not a && not false) ≡ false → a ≡ (a || b)
     met_before true b e = refl
     met_before false b e = cc
+
     or_none : (a : Bool) → a ≡ (a || false)
     or_none true = refl
     or_none false = refl
+
     by_past : (a b : Bool) → are_until ms past ≡ a → nat_lt ms s.at ≡ b →
         told_in (happenings_in (cond (not (are_until ms past) || nat_lt ms s.at) (until ms past) (past ++ s ∷ []))) ≡ (told_until past || (nat_le s.at ms && told_in s.happenings))
     by_past false b e f = choice false b e f ∙ met_before (told_until past) (nat_le s.at ms && told_in s.happenings) (ap (λ (x : Bool). not (told_until past) && not x) (sym e) ∙ kept)
@@ -316,14 +321,14 @@ module _ (ms : ℕ) (told : Note → Bool) where
       ap (λ (b : Bool). not b && not (are_until ms (past ++ s ∷ []))) (told_next past s kept)
       ∙ ap (λ (b : Bool). not (told_until past || (nat_le s.at ms && told_in s.happenings)) && b) (past_more ms past s)
       ∙ by_parts (told_until past) (are_until ms past) (nat_lt ms s.at) (nat_le s.at ms && told_in s.happenings) kept where
-    by_parts : (t a b c : Bool) → (not t && not a) ≡ false → (not (t || c) && (not a || b)) ≡ (b && not (t || c))
-    by_parts true a true c e = refl
-    by_parts true a false c e = refl
-    by_parts false true true true e = refl
-    by_parts false true true false e = refl
-    by_parts false true false true e = refl
-    by_parts false true false false e = refl
-    by_parts false false b c e = cc
+        by_parts : (t a b c : Bool) → (not t && not a) ≡ false → (not (t || c) && (not a || b)) ≡ (b && not (t || c))
+        by_parts true a true c e = refl
+        by_parts true a false c e = refl
+        by_parts false true true true e = refl
+        by_parts false true true false e = refl
+        by_parts false true false true e = refl
+        by_parts false true false false e = refl
+        by_parts false false b c e = cc
 
   pub told_over : (past more : List Sight) → (not (told_until past) && not (are_until ms past)) ≡ true → told_until (past ++ more) ≡ false
   told_over past more gone =

@@ -81,17 +81,17 @@ module _ (ok : Test) (Keeps : List Happening → Memo → Type 0) (by : TestsBy 
   notes_go (h ∷ hs) past at w none keeps =
       subst (After at past (h ∷ hs)) (sym (ap (notes_watched at hs (held_by past h)) (noted_kept at h (held_by past h) w none)))
       (by_test (λ w2 none2 keeps2. notes_go hs (past ++ h ∷ []) at w2 none2 keeps2) (ok past h) refl) where
-    by_test : Again at (past ++ h ∷ []) hs → (b : Bool) → ok past h ≡ b → After at past (h ∷ hs) (notes_watched at hs (held_by past h) (kept_by at past h w))
-    by_test again true passes =
-        let kept : (kept_by at past h w).lost ≡ None = ap (λ (b : Bool). cond b (Some at) None) (loss_is past h w.memo keeps ∙ ap not passes) in
-        let rest : After at (past ++ h ∷ []) hs (notes_watched at hs (held_by past h) (kept_by at past h w)) =
+        by_test : Again at (past ++ h ∷ []) hs → (b : Bool) → ok past h ≡ b → After at past (h ∷ hs) (notes_watched at hs (held_by past h) (kept_by at past h w))
+        by_test again true passes =
+            let kept : (kept_by at past h w).lost ≡ None = ap (λ (b : Bool). cond b (Some at) None) (loss_is past h w.memo keeps ∙ ap not passes) in
+            let rest : After at (past ++ h ∷ []) hs (notes_watched at hs (held_by past h) (kept_by at past h w)) =
             subst (λ (x : List Held). After at (past ++ h ∷ []) hs (notes_watched at hs x (kept_by at past h w))) (sym (held_is past h))
             (again (kept_by at past h w) kept (by.notes past h at w.memo keeps)) in
-        after_passed at past hs h (notes_watched at hs (held_by past h) (kept_by at past h w)) passes rest
-    by_test again false fails =
-        let lost : (kept_by at past h w).lost ≡ Some at = ap (λ (b : Bool). cond b (Some at) None) (loss_is past h w.memo keeps ∙ ap not fails) in
-        let is : notes_watched at hs (held_by past h) (kept_by at past h w) ≡ kept_by at past h w = notes_lost at at hs (held_by past h) (kept_by at past h w) lost in
-        inl (ap (λ (x : Watched). x.lost) is ∙ lost, ap (λ (b : Bool). b && each_after ok (past ++ h ∷ []) hs) fails)
+            after_passed at past hs h (notes_watched at hs (held_by past h) (kept_by at past h w)) passes rest
+        by_test again false fails =
+            let lost : (kept_by at past h w).lost ≡ Some at = ap (λ (b : Bool). cond b (Some at) None) (loss_is past h w.memo keeps ∙ ap not fails) in
+            let is : notes_watched at hs (held_by past h) (kept_by at past h w) ≡ kept_by at past h w = notes_lost at at hs (held_by past h) (kept_by at past h w) lost in
+            inl (ap (λ (x : Watched). x.lost) is ∙ lost, ap (λ (b : Bool). b && each_after ok (past ++ h ∷ []) hs) fails)
 
   -- .. after an event
   event_goes : (s : Sight) (past hs : List Happening) (w : Watched) → After s.at past hs w → After s.at past hs (event_ended s.at s.facts w)

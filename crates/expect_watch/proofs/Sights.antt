@@ -72,9 +72,9 @@ HasEffects of effects = effects ≡ [] ∷ sets_in of.world.rows of.tree.term
 effects_are : (of : Setup) (effects : List (List Set)) → HasEffects of effects → (uid : ℕ) → slice_index_or effects uid [] ≡ effects_at of uid
 effects_are of effects has uid =
     ap (λ (x : List (List Set)). slice_index_or x uid []) (has ∙ ap (λ (sets : List (List Set)). [] ∷ sets) (sets_in_nodes of.world.rows of.tree.term)) ∙ by_place uid where
-  by_place : (k : ℕ) → slice_index_or ([] ∷ map (node_sets of.world.rows) (nodes_of of.tree.term)) k [] ≡ effects_at of k
-  by_place zero = refl
-  by_place (suc k) = sets_at of.world.rows (nodes_of of.tree.term) k
+      by_place : (k : ℕ) → slice_index_or ([] ∷ map (node_sets of.world.rows) (nodes_of of.tree.term)) k [] ≡ effects_at of k
+      by_place zero = refl
+      by_place (suc k) = sets_at of.world.rows (nodes_of of.tree.term) k
 
 -- the facts after a note
 had_is : (of : Setup) (effects : List (List Set)) (note : Note) (facts : List ℤ) → HasEffects of effects → effects_had effects note facts ≡ after_note of note facts

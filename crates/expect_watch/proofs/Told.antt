@@ -82,7 +82,7 @@ each_told of blocks (e ∷ es) (w ∷ ws) begun over =
     let sights : List Sight = sights_of of blocks (opening_facts of.world) in
     let line : (sights_watched sights [] w).line ≡ e.line = sights_line sights [] w ∙ begun.0.line in
     let verdict : verdict_of (sights_watched sights [] w) (last_of 0 sights) ≡ told.verdict_of of (story_of of blocks) e.expectation =
-        begun_tells of.world.facts (opening_facts of.world) e w begun.0 (All-head (OverOne of) e es over) sights in
+    begun_tells of.world.facts (opening_facts of.world) e w begun.0 (All-head (OverOne of) e es over) sights in
     let rest = each_told of blocks es ws begun.1 (All-tail (OverOne of) e es over) in
     (λ i. (line i, verdict i) ∷ rest i)
 
@@ -96,7 +96,7 @@ module _ (of : Setup) (expected : List Expected) (s : State) (begun : BegunOn of
       let opening : List Sight = sights_of of blocks (opening_facts of.world) in
       let sights : sights_of of blocks s.facts ≡ opening = ap (sights_of of blocks) begun.facts in
       let watched : after.watched ≡ map (sights_watched opening []) s.watched =
-          blocks_watched of blocks s begun.effects ∙ (λ i. map (sights_watched (sights i) (begun.held i)) s.watched) in
+      blocks_watched of blocks s begun.effects ∙ (λ i. map (sights_watched (sights i) (begun.held i)) s.watched) in
       let last : after.last ≡ last_of 0 opening = blocks_last of blocks s begun.effects ∙ (λ i. last_of (begun.last i) (sights i)) in
       (λ i. map (seen_of (last i)) (watched i)) ∙ each_told of blocks expected s.watched begun.watched begun.over
 

@@ -30,7 +30,7 @@ KeepsOf names facts (expected.Ends leaves given ms) past memo = EndsKept names f
 KeepsOf names facts (expected.NeverWith first second) past memo = ApartKept first second (happenings_in past) memo
 KeepsOf names facts (expected.Order first second) past memo = OrderKept first second (happenings_in past) memo
 
-follows_any : (names : List Fact) (facts : List ℤ) (e : Expectation) → IsOver names e → FollowsBy names facts e (KeepsOf names facts e)
+pub follows_any : (names : List Fact) (facts : List ℤ) (e : Expectation) → IsOver names e → FollowsBy names facts e (KeepsOf names facts e)
 follows_any names facts (expected.Always e) over = follows_always names facts e
 follows_any names facts (expected.At ms e) over = follows_at names facts ms e
 follows_any names facts (expected.By ms runner given) over = follows_by names facts ms runner given
@@ -76,8 +76,10 @@ pub begun_tells : (names : List Fact) (facts : List ℤ) (e : Expected) (w : Wat
 begun_tells names facts e w begun over sights = by_loss (is_lost names e.expectation (so_far facts [])) refl where
   first : Begins names facts e.expectation w.memo
   first = begins names facts e.expectation w.memo begun.memo
+
   lost_is : (b : Bool) → is_lost names e.expectation (so_far facts []) ≡ b → w.lost ≡ cond b (Some 0) None
   lost_is b is = begun.lost ∙ ap (λ (x : Bool). cond x (Some 0) None) (first.0 ∙ is)
+
   by_loss : (b : Bool) → is_lost names e.expectation (so_far facts []) ≡ b → verdict_of (sights_watched sights [] w) (last_of 0 sights) ≡ verdict_after names facts e.expectation [] sights 0
   by_loss true is = follows_lost names facts e.expectation (KeepsOf names facts e.expectation) (follows_any names facts e.expectation over) [] sights [] 0 w (lost_is true is) is
   by_loss false is = follows names facts e.expectation (KeepsOf names facts e.expectation) (follows_any names facts e.expectation over) sights [] 0 w (lost_is false is) first.1 is

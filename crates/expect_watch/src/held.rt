@@ -78,14 +78,12 @@ pub fn take_note(held: &mut Vec<(u8, u32)>, runner: u8, note: Note) -> Result<()
 fn is_beside(marks: &[bool], leaf: (u8, u32), held: &[(u8, u32)]) -> bool
     ensures { result ≡ list_any (λ b. nat_eq b.0 leaf.0 && leaves_of.is_marked marks.now b.1 && not (nat_eq b.1 leaf.1)) held.now }
 {
-    held.iter()
-        .any(|other| other.0 == leaf.0 && is_marked(marks, other.1) && other.1 != leaf.1)
+    held.iter().any(|other| other.0 == leaf.0 && is_marked(marks, other.1) && other.1 != leaf.1)
 }
 
 /// Whether one of the first leaves is held, and another one, of the second ones, at the same runner.
 pub fn are_together(first: &[bool], second: &[bool], held: &[(u8, u32)]) -> bool
     ensures { result ≡ met.are_together first.now second.now held.now }
 {
-    held.iter()
-        .any(|leaf| is_marked(first, leaf.1) && is_beside(second, *leaf, held))
+    held.iter().any(|leaf| is_marked(first, leaf.1) && is_beside(second, *leaf, held))
 }

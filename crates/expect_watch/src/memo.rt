@@ -155,13 +155,7 @@ impl Memo {
 
     /// Takes a note of an event at this moment, before which the facts are these, and after which these leaves are held, each
     /// with its runner. Whether the expectation is lost with it.
-    pub fn is_lost_by(
-        &mut self,
-        at: u64,
-        note: Note,
-        facts: &FactTable,
-        held: &[(u8, u32)],
-    ) -> bool
+    pub fn is_lost_by(&mut self, at: u64, note: Note, facts: &FactTable, held: &[(u8, u32)]) -> bool
         requires { Fits (length facts.now) self.old }
         ensures memo { self.new ≡ after_note at note self.old }
         ensures lost { result ≡ memos.is_lost_by note facts.now held.now self.old }
@@ -252,7 +246,10 @@ impl Memo {
         match self {
             Memo::Always(expr) => !is_so(expr, facts),
             Memo::Starts {
-                op, count, starts, ..
+                op,
+                count,
+                starts,
+                ..
             } => !may_compare(*op, *starts, *count),
             _ => false,
         }
@@ -266,7 +263,10 @@ impl Memo {
             Memo::At { is_so, .. } => *is_so,
             Memo::By { is_met, .. } | Memo::Ends { is_met, .. } => *is_met,
             Memo::Starts {
-                op, count, starts, ..
+                op,
+                count,
+                starts,
+                ..
             } => compares(*op, *starts, *count),
             Memo::Always(_)
             | Memo::NeverAnswers { .. }

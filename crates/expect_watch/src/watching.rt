@@ -115,7 +115,11 @@ fn watched_of(
 {
     let Expected { line, expectation } = expected;
     let memo = memo_of(alloc, expectation, names, facts)?;
-    let lost = if memo.is_lost_now(facts) { Some(0) } else { None };
+    let lost = if memo.is_lost_now(facts) {
+        Some(0)
+    } else {
+        None
+    };
     Ok(Watched { line, memo, lost })
 }
 
@@ -208,13 +212,7 @@ impl Watched {
 }
 
 /// Has each expectation take a note of an event at this moment.
-fn take_each(
-    watched: &mut Vec<Watched>,
-    at: u64,
-    note: Note,
-    facts: &FactTable,
-    held: &[(u8, u32)],
-)
+fn take_each(watched: &mut Vec<Watched>, at: u64, note: Note, facts: &FactTable, held: &[(u8, u32)])
     requires { AreFit (length facts.now) watched.old.items }
     ensures taken { watched.new.items ≡ map (noted at note facts.now held.now) watched.old.items }
     ensures fit { AreFit (length facts.now) watched.new.items }

@@ -9,7 +9,10 @@ pub enum Expectation {
     /// The expression is true before the first event and after every event.
     Always(Expr),
     /// The expression is true after the last event up to this moment.
-    At { ms: u64, expr: Expr },
+    At {
+        ms: u64,
+        expr: Expr,
+    },
     /// Some tick of the runner answers so, up to this moment.
     By {
         ms: u64,
@@ -17,9 +20,15 @@ pub enum Expectation {
         answer: Answer,
     },
     /// No tick of the runner answers so.
-    NeverAnswers { runner: u8, answer: Answer },
+    NeverAnswers {
+        runner: u8,
+        answer: Answer,
+    },
     /// Wherever such a leaf is started, the expression is true.
-    StartsOnly { leaves: Items<bool>, expr: Expr },
+    StartsOnly {
+        leaves: Items<bool>,
+        expr: Expr,
+    },
     /// So many starts of such leaves compare so.
     Starts {
         leaves: Items<bool>,

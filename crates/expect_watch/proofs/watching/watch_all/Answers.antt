@@ -20,8 +20,8 @@ loop-one-preserved c =
     let t = YieldsList-turn (YieldsList-from_vec all (gives.0 ∙ c.into_vec-one-items.ensures) len) c.loop-one.yielded c.loop-one.one-iterator c.loop-one.yielded_by _ c.next.new.self c.in-Some.one c.in-Some.is c.next.ensures.steps in
     let n = length c.loop-one.yielded in
     let more : take (length (c.loop-one.yielded ++ c.in-Some.one ∷ [])) all ≡ take n all ++ c.in-Some.one ∷ [] =
-        ap (λ (k : ℕ). take k all) (length_push c.loop-one.yielded c.in-Some.one) ∙ take_more all n c.in-Some.one t.0
-        ∙ ap (λ (e : Expected). take n all ++ e ∷ []) (sym t.1) in
+    ap (λ (k : ℕ). take k all) (length_push c.loop-one.yielded c.in-Some.one) ∙ take_more all n c.in-Some.one t.0
+    ∙ ap (λ (e : Expected). take n all ++ e ∷ []) (sym t.1) in
     record {
       begun =
           subst (AreBegun names facts (take (length (c.loop-one.yielded ++ c.in-Some.one ∷ [])) all)) (sym c.in_ok-push.ensures.items)
