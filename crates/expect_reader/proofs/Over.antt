@@ -93,10 +93,10 @@ lines_over : (s : Subject) (line : ℕ) (texts : List (List ℕ)) (before : List
 lines_over s line [] before read all is = subst (AllOver s.facts) (sym is) all
 lines_over s line (text ∷ texts) before read all h =
     by_after (λ left over goes. lines_over s (line + 1) texts left read over goes) h.0 (content_over s before line (content text) h.0 all h.1) h.2 where
-  by_after : ((left : List Expected) → AreOver s.facts left → AfterLines s (line + 1) texts left read → AllOver s.facts read) → (after : Result (List Expected) ExpectKind) → AllOver s.facts after
-      → GoesOn line (λ left. AfterLines s (line + 1) texts left read) read after → AllOver s.facts read
-  by_after again (Ok left) over goes = again left over goes
-  by_after again (Err kind) over goes = subst (AllOver s.facts) (sym goes) tt
+      by_after : ((left : List Expected) → AreOver s.facts left → AfterLines s (line + 1) texts left read → AllOver s.facts read) → (after : Result (List Expected) ExpectKind) → AllOver s.facts after
+          → GoesOn line (λ left. AfterLines s (line + 1) texts left read) read after → AllOver s.facts read
+      by_after again (Ok left) over goes = again left over goes
+      by_after again (Err kind) over goes = subst (AllOver s.facts) (sym goes) tt
 
 file_over : (s : Subject) (texts : List (List ℕ)) (read : Result (List Expected) ExpectFault) → LinesRead s texts read → AllOver s.facts read
 file_over s [] read is = subst (AllOver s.facts) (sym is) tt

@@ -1,35 +1,31 @@
-ghost use Rattle.std.specs.Prelude.{◌≡◌, [], IfOk, bytes_eq};
+ghost use Rattle.std.specs.Prelude.{◌≡◌, [], bytes_eq};
 ghost use Rattle.std.specs.List.{list_any};
 ghost use Rattle.spec_world_file.specs.WorldFile as file;
 ghost use Rattle.spec_world_file.specs.WorldFile.{is_known};
-ghost use Rattle.spec_expect.specs.ExpectFile.{subject_of};
 ghost use Rattle.expect_reader.specs.Reading.{subject_seen};
 
-use crate::places::places_of;
-use base_texts::{Name, NoMemory};
+use base_texts::Name;
 use spec_expect::Place;
 use spec_script::Expr;
-use spec_tree::Tree;
 use spec_world::{Fact, World};
-use std::alloc::Global;
 
 /// What the lines of a file speak of: the facts and the runners of a world, and the nodes of a tree.
 #[derive(Drop)]
 pub struct Subject<'a> {
     pub facts: &'a [Fact],
     pub runners: u8,
-    pub places: Vec<Place>,
+    pub places: &'a [Place],
 }
 
-/// What lines speak of that are about the run of this tree in this world.
-pub fn subject_of<'a>(alloc: Global, tree: &Tree, world: &'a World) -> Result<Subject<'a>, NoMemory>
-    ensures { IfOk result (λ subject. subject_seen subject ≡ subject_of tree.now world.entry.now) }
+/// What lines speak of that are about the run in this world of a tree with these nodes.
+pub fn subject_of<'a>(world: &'a World, places: &'a [Place]) -> Subject<'a>
+    ensures { subject_seen result ≡ record { facts = world.entry.now.facts; runners = world.entry.now.runners; places = places.entry.now } }
 {
-    Ok(Subject {
+    Subject {
         facts: world.facts.list(),
         runners: world.runners,
-        places: places_of(alloc, tree)?,
-    })
+        places,
+    }
 }
 
 /// Whether a fact has this name.

@@ -1,23 +1,16 @@
 -- What a run gives that was joined, of which something is expected.
 use Rattle.std.specs.Prelude.{ℕ, List, Some, Result, Ok, Err}
-use Rattle.base_texts.specs.declared.stop.Stop.{Stop}
-use Rattle.base_texts.specs.declared.stop.Stop.TheVariants as stop
 use Rattle.run_arena.specs.declared.nodes.Node.{Node}
 use Rattle.spec_run.specs.Drivers.{DriverState}
 use Rattle.spec_run.specs.Run.{Trace, run}
 use Rattle.spec_run.specs.Served.{Setup}
-use Rattle.spec_expect.specs.declared.expect_fault.ExpectFault.{ExpectFault}
 use Rattle.spec_expect.specs.declared.expectation.Expected.{Expected}
-use Rattle.spec_expect.specs.ExpectFile.{ReadsExpected}
 use Rattle.spec_expect.specs.Told.{told_of}
 use Rattle.spec_expect.specs.Verdicts.{failed}
 use Rattle.spec_program.specs.declared.exit.Exit.{Exit}
 use Rattle.spec_program.specs.declared.exit.Exit.TheVariants as exit
 use Rattle.spec_program.specs.Expecting.{expect_exit}
 use Rattle.spec_program.specs.Output.{Never, Output}
-use Rattle.expect_watch.specs.declared.watching.Watching.{Watching}
-use Rattle.expect_watch.specs.Begun.{BegunOn}
-use Rattle.expect_watch.specs.States.{seen}
 use Rattle.run_loop.specs.Runs.{roster_over}
 use Rattle.text_lines.specs.declared.stop.TextStop.{TextStop}
 use Rattle.text_lines.specs.declared.stop.TextStop.TheVariants as text_stop
@@ -31,13 +24,6 @@ expect_exit_of (Ok Unmet) = exit.Unmet
 expect_exit_of (Ok Faulted) = exit.Fault
 expect_exit_of (Err text_stop.WriteFault) = exit.Write
 expect_exit_of (Err text_stop.NoMemory) = exit.Memory
-
--- what is kept of a run for what these bytes expect of it, or their first faulty line
-abbrev pub WatchesBy : Setup → List ℕ → Result Watching (Stop ExpectFault) → Type 0
-WatchesBy of expect (Ok watching) =
-    (expected : List Expected) × ReadsExpected of.tree of.world expect (Ok expected) × BegunOn of expected (seen watching)
-WatchesBy of expect (Err (stop.Fault fault)) = ReadsExpected of.tree of.world expect (Err fault)
-WatchesBy of expect (Err stop.NoMemory) = Unit {0}
 
 -- the output of this trace: the drivers had its calls, in their order
 abbrev pub expecting_trace : Setup → List (List Node) → List Expected → List DriverState → Trace → Output

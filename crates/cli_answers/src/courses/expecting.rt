@@ -4,12 +4,11 @@ ghost use Rattle.spec_run.specs.Run.{opening};
 ghost use Rattle.spec_tree.specs.Trees.{nodes_of};
 ghost use Rattle.spec_output.specs.Lines.{line_names};
 ghost use Rattle.spec_program.specs.Answers.{Gave};
-ghost use Rattle.spec_program.specs.Expecting.{setup};
 ghost use Rattle.run_loop.specs.Runs.{arenas_of};
-ghost use Rattle.expect_watch.specs.Begun.{BegunOn, Wanted};
-ghost use Rattle.expect_watch.specs.States as states;
+ghost use Rattle.expect_watch.specs.Begun.{Wanted};
+ghost use Rattle.expect_watch.specs.Over.{AreOver};
 ghost use Rattle.text_trace.specs.Traces.{CanRun, state_in};
-ghost use Rattle.cli_answers.specs.Courses.Expecting.{WatchesBy, expect_exit_of, expecting_on};
+ghost use Rattle.cli_answers.specs.Courses.Expecting.{expect_exit_of, expecting_on};
 ghost use Rattle.spec_run.specs.Served.{Setup};
 ghost use Rattle.spec_run.specs.Drivers.{NothingHeld};
 ghost use Rattle.spec_run.specs.Joins.{lack_of};
@@ -23,16 +22,16 @@ ghost use Rattle.cli_refusals.specs.Lent.Lent.{Stays, seen};
 
 use crate::courses::join::joined_runs;
 use base_outside::{Clock, Shelf, Sink};
-use base_texts::Stop;
+use base_texts::Items;
 use cli_refusals::{Outside, Refusal};
 use expect_reader::read_expected;
-use expect_watch::{Watching, watching_of};
+use expect_watch::watching_of;
 use run_driver::Drivers;
 use run_loop::Runs;
-use spec_expect::ExpectFault;
+use spec_expect::Expected;
 use spec_program::Exit;
 use spec_tree::Tree;
-use spec_world::{Event, World};
+use spec_world::World;
 use std::alloc::Global;
 use text_lines::{Names, TextStop, names_of, write_line};
 use text_trace::{Expecting, run_expected};
@@ -51,37 +50,30 @@ fn exit_of(ended: Result<Expecting, TextStop>) -> Exit
     }
 }
 
-/// What is kept of the run of a tree in a world for what these bytes of a file of expectations expect of it. The fault is that
-/// of the first faulty line.
-fn watched_by(
-    alloc: Global,
-    tree: &Tree,
-    world: &World,
-    expect: &[u8],
-) -> Result<Watching, Stop<ExpectFault>>
-    requires world { IsValidWorld world.now }
-    requires short { length expect.now ≤ most_file_bytes }
-    ensures { WatchesBy (setup tree.now world.now) expect.now result }
-{
-    let expected = read_expected(alloc, tree, world, expect)?;
-    Ok(watching_of(alloc, tree, world, expected)?)
+/// A tree and a world that fit together, and the names by which lines tell of them.
+#[derive(Drop)]
+struct Joined<'a> {
+    tree: &'a Tree,
+    world: &'a World,
+    names: &'a Names,
 }
 
 /// Runs what is expected to do something, and writes what became of that.
 fn run_watched<S: Shelf, K: Sink, C: Clock, D: Drivers>(
     alloc: Global,
-    watching: Watching,
-    names: &Names,
+    joined: &Joined,
+    expected: Items<Expected>,
     runs: Runs,
-    events: &[Event],
     outside: &mut Outside<S, K, C, D>,
 ) -> Result<Expecting, TextStop>
     ghost wanted: { Wanted }
-    requires begun { BegunOn wanted.of wanted.expected (states.seen watching) }
-    requires names { names.now ≡ line_names wanted.of.tree wanted.of.world }
+    requires expected { expected ≡ wanted.expected }
+    requires tree { joined.now.tree.now ≡ wanted.of.tree }
+    requires world { joined.now.world.now ≡ wanted.of.world }
+    requires names { joined.now.names.now ≡ line_names wanted.of.tree wanted.of.world }
+    requires over { AreOver wanted.of.world.facts wanted.expected }
     requires runs { CanRun wanted.of (D.states outside.old.drivers.now) runs }
     requires opening { state_in wanted.of (D.states outside.old.drivers.now) runs ≡ opening wanted.of.tree wanted.of.world }
-    requires events { events.now ≡ wanted.of.world.events }
     requires told { first_untold wanted.of.world.rows (nodes_of wanted.of.tree.term) wanted.of.world.events ≡ None }
     ensures gave { Gave (expecting_on wanted.of (arenas_of runs) wanted.expected (D.states outside.old.drivers.now)) (expect_exit_of result)
         (seen K.written K.faults C.moments D.states outside.old)
@@ -89,7 +81,16 @@ fn run_watched<S: Shelf, K: Sink, C: Clock, D: Drivers>(
     ensures unread { outside.new.shelf.now ≡ outside.old.shelf.now }
     ensures stays { Stays S.faults K.faults D.states outside.old outside.new }
 {
-    let (lines, ended) = run_expected(alloc, watching, names, runs, events, outside.drivers)?;
+    let watching = watching_of(alloc, joined.tree, joined.world, expected)?;
+    let events = joined.world.events.list();
+    let (lines, ended) = run_expected(
+        alloc,
+        watching,
+        joined.names,
+        runs,
+        events,
+        outside.drivers,
+    )?;
     write_line(outside.out, lines.as_slice())?;
     Ok(ended)
 }
