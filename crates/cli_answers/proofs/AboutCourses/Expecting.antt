@@ -22,7 +22,8 @@ use Rattle.spec_program.specs.declared.exit.Exit.{Exit}
 use Rattle.spec_program.specs.declared.exit.Exit.TheVariants as exit
 use Rattle.spec_program.specs.Answers.{Gave, Side, side}
 use Rattle.spec_program.specs.Expecting.{FileExpects, JoinExpects, expect_exit, expect_output, expecting}
-use Rattle.spec_program.specs.Output.{AreUncalled, Ending, Output}
+use Rattle.spec_program.specs.Output.{AreUncalled, Ending, Never, Output}
+use Rattle.spec_program.specs.Refused.{expect_refused, join_refused}
 use Rattle.run_arena.specs.declared.nodes.Node.{Node}
 use Rattle.run_arena.specs.Joining.{Joins}
 use Rattle.run_loop.specs.declared.runs.Runs.{Runs}
@@ -35,6 +36,7 @@ use Rattle.text_trace.specs.Expected.{IsExpected, comes_out, met_or_not}
 use Rattle.text_trace.specs.Halted.{IsCut}
 use Rattle.text_trace.specs.Traces.{state_in, trace_of}
 use Rattle.text_trace.proofs.Cuts.{cut_has_begun_within}
+use Rattle.expect_reader.specs.Reading.{GivesItems}
 use Rattle.cli_refusals.specs.declared.refusal.Refusal.TheVariants as refusal
 use Rattle.cli_refusals.specs.Ends.{Ends, EndsAt, IsUntouched}
 use Rattle.cli_refusals.specs.Refusing.{stopped_as}
@@ -110,7 +112,7 @@ Expects of expect moments drivers output = JoinExpects (lack_of of.tree of.world
 pub expect_join_stopped : (of : Setup) (expect : List ℕ) (stopped : Stop JoinFault) (a b : Side) → IsUntouched a b → Joins {A = Runs} (Err stopped) (lack_of of.tree of.world a.drivers) → EndsAt (Expects of expect) AreUncalled (Err (stopped_as refusal.Join stopped)) a b
 expect_join_stopped of expect (stop.Fault f) a b same lacks =
     at_any a.clock (λ moments. Ends (Expects of expect moments a.drivers) AreUncalled (Err (refusal.Join f)) a b)
-    (λ moments. (subst (λ (lack : Option JoinFault). JoinExpects lack of expect a.drivers _) (sym lacks) refl, same))
+    (λ moments. (subst (λ (lack : Option JoinFault). JoinExpects lack of expect a.drivers (join_refused f)) (sym lacks) refl, same))
 expect_join_stopped of expect stop.NoMemory a b same lacks =
     at_any a.clock (λ moments. Ends (Expects of expect moments a.drivers) AreUncalled (Err refusal.NoMemory) a b) (λ moments. (tt, same))
 
@@ -118,11 +120,17 @@ expect_join_stopped of expect stop.NoMemory a b same lacks =
 pub expect_file_stopped : (of : Setup) (expect : List ℕ) (fault : ExpectFault) (a b : Side) → IsUntouched a b → lack_of of.tree of.world a.drivers ≡ None → ReadsExpected of.tree of.world expect (Err fault) → EndsAt (Expects of expect) AreUncalled (Err (refusal.Expect fault)) a b
 expect_file_stopped of expect fault a b same lacks reads =
     at_any a.clock (λ moments. Ends (Expects of expect moments a.drivers) AreUncalled (Err (refusal.Expect fault)) a b)
-    (λ moments. (subst (λ (lack : Option JoinFault). JoinExpects lack of expect a.drivers _) (sym lacks) (Err fault, reads, refl), same))
+    (λ moments. (subst (λ (lack : Option JoinFault). JoinExpects lack of expect a.drivers (expect_refused fault)) (sym lacks) (Err fault, reads, refl), same))
 
 -- memory ran out
 pub expect_no_memory : (of : Setup) (expect : List ℕ) (a b : Side) → IsUntouched a b → EndsAt (Expects of expect) AreUncalled (Err refusal.NoMemory) a b
 expect_no_memory of expect a b same = at_any a.clock (λ moments. Ends (Expects of expect moments a.drivers) AreUncalled (Err refusal.NoMemory) a b) (λ moments. (tt, same))
+
+-- .. or could not be read
+pub expect_stopped : (of : Setup) (expect : List ℕ) (stopped : Stop ExpectFault) (a b : Side) → IsUntouched a b → lack_of of.tree of.world a.drivers ≡ None
+    → (let read : Result (List Expected) (Stop ExpectFault) = Err stopped in GivesItems read (ReadsExpected of.tree of.world expect)) → EndsAt (Expects of expect) AreUncalled (Err (stopped_as refusal.Expect stopped)) a b
+expect_stopped of expect (stop.Fault fault) a b same lacks reads = expect_file_stopped of expect fault a b same lacks reads
+expect_stopped of expect stop.NoMemory a b same lacks reads = expect_no_memory of expect a b same
 
 -- runs that were made for these drivers, which were then prepared
 module _ (of : Setup) (runs : Runs) (before made : List DriverState) (expect : List ℕ) (expected : List Expected)
@@ -157,5 +165,5 @@ module _ (of : Setup) (runs : Runs) (before made : List DriverState) (expect : L
           expecting expected of before whole,
           subst (λ (lack : Option JoinFault). JoinExpects lack of expect before (expecting expected of before whole)) (sym lacks) (Ok expected, reads, refl),
           subst (λ (o : Output). Gave o result (side a.written a.faults a.clock before) b) output_is
-              (gave_from _ _ _ _ result (side a.written a.faults a.clock made) b before uncalled gave),
+              (gave_from (told_of of expected whole) (expect_exit whole.fault (failed of whole.blocks expected)) (roster_over (arenas_of runs) whole.calls made) Never result (side a.written a.faults a.clock made) b before uncalled gave),
         ))

@@ -121,10 +121,14 @@ pub fn join_and_expect<S: Shelf, K: Sink, C: Clock, D: Drivers>(
     let slots = slots_of(alloc, tree)?;
     let names = names_of(alloc, tree, world, &slots)?;
     let runs = joined_runs(alloc, tree, &slots, world, outside.drivers)?;
-    match watched_by(alloc, tree, world, expect) {
-        Ok(watching) => {
-            let events = world.events.list();
-            Ok(exit_of(run_watched(alloc, watching, &names, runs, events, outside)))
+    match read_expected(alloc, tree, world, expect) {
+        Ok(expected) => {
+            let joined = Joined {
+                tree,
+                world,
+                names: &names,
+            };
+            Ok(exit_of(run_watched(alloc, &joined, expected, runs, outside)))
         }
         Err(stopped) => {
             drop(runs);
