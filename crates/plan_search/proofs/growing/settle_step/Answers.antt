@@ -16,7 +16,7 @@ returns-in_ok-name_at-in-Some-2 c = λ tree st is. (
 
 pub returns-in_ok-push-in-None : goal.returns-in_ok-push-in-None
 returns-in_ok-push-in-None c = λ tree st is.
-    settled_in c.settle-settled.new.t c.args.world.now c.args.grown tree c.settle-settled.result (c.settle-settled.ensures c.args.world.now tree st is) c.in-None.is c.args.steps.now.items c.push.new.self.items
+    settled_in c.settle-settled.new.t c.args.world.now c.args.grown tree c.settle-settled.result (c.settle-settled.ensures c.args.world.now tree st is) c.in-None.is c.args.steps.now.items c.push-in-None.new.self.items
     (record { uid = c.args.grown.place.uid; condition = c.in_ok-id_of-in-None.field-0; action = c.in_ok-id_of-in-None-2.field-0; raises = c.settle-settled.result.raises })
     c.in_ok-push-in-None.ensures.items refl refl
     (c.in_ok-id_of-in-None.ensures ∙ ap (λ (rows : List Row). id_of rows c.args.grown.place.row) c.list-rows.ensures)
