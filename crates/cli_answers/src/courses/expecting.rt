@@ -83,7 +83,14 @@ fn run_watched<S: Shelf, K: Sink, C: Clock, D: Drivers>(
 {
     let watching = watching_of(alloc, joined.tree, joined.world, expected)?;
     let events = joined.world.events.list();
-    let (lines, ended) = run_expected(alloc, watching, joined.names, runs, events, outside.drivers)?;
+    let (lines, ended) = run_expected(
+        alloc,
+        watching,
+        joined.names,
+        runs,
+        events,
+        outside.drivers,
+    )?;
     write_line(outside.out, lines.as_slice())?;
     Ok(ended)
 }
@@ -121,9 +128,7 @@ pub fn join_and_expect<S: Shelf, K: Sink, C: Clock, D: Drivers>(
                 world,
                 names: &names,
             };
-            Ok(exit_of(run_watched(
-                alloc, &joined, expected, runs, outside,
-            )))
+            Ok(exit_of(run_watched(alloc, &joined, expected, runs, outside)))
         }
         Err(stopped) => {
             drop(runs);
