@@ -21,7 +21,7 @@ use Rattle.spec_expect.specs.Verdicts.{failed}
 use Rattle.spec_program.specs.declared.exit.Exit.{Exit}
 use Rattle.spec_program.specs.declared.exit.Exit.TheVariants as exit
 use Rattle.spec_program.specs.Answers.{Gave, Side, side}
-use Rattle.spec_program.specs.Expecting.{FileExpects, JoinExpects, expect_exit, expect_output, expecting}
+use Rattle.spec_program.specs.Expecting.{JoinExpects, expect_exit, expecting}
 use Rattle.spec_program.specs.Output.{AreUncalled, Ending, Never, Output}
 use Rattle.spec_program.specs.Refused.{expect_refused, join_refused}
 use Rattle.run_arena.specs.declared.nodes.Node.{Node}
@@ -32,7 +32,7 @@ use Rattle.text_lines.specs.declared.stop.TextStop.{TextStop}
 use Rattle.text_lines.specs.declared.stop.TextStop.TheVariants as text_stop
 use Rattle.text_trace.specs.declared.expecting.run.Expecting.{Expecting}
 use Rattle.text_trace.specs.declared.expecting.run.Expecting.TheVariants.{Met, Unmet, Faulted}
-use Rattle.text_trace.specs.Expected.{IsExpected, comes_out, met_or_not}
+use Rattle.text_trace.specs.Expected.{IsExpected, comes_out}
 use Rattle.text_trace.specs.Halted.{IsCut}
 use Rattle.text_trace.specs.Traces.{state_in, trace_of}
 use Rattle.text_trace.proofs.Cuts.{cut_has_begun_within}

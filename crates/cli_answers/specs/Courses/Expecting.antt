@@ -1,5 +1,5 @@
 -- What a run gives that was joined, of which something is expected.
-use Rattle.std.specs.Prelude.{ℕ, List, Some, Result, Ok, Err}
+use Rattle.std.specs.Prelude.{List, Some, Result, Ok, Err}
 use Rattle.run_arena.specs.declared.nodes.Node.{Node}
 use Rattle.spec_run.specs.Drivers.{DriverState}
 use Rattle.spec_run.specs.Run.{Trace, run}

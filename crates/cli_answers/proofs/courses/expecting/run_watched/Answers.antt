@@ -1,8 +1,7 @@
-use Rattle.std.proofs.Common.{◌≡◌, ◌∙◌, [], ap, refl, rules, Err, List}
+use Rattle.std.proofs.Common.{◌≡◌, ◌∙◌, [], ap, refl, rules, Err}
 use Rattle.std.proofs.lemmas.Result.{err_from_is_err_and}
 use Rattle.run_loop.specs.Runs.{arenas_of}
 use Rattle.spec_run.specs.Run.{Trace}
-use Rattle.spec_world.specs.declared.world.Event.{Event}
 use Rattle.spec_world.specs.declared.world.World.{World}
 use Rattle.text_trace.specs.Traces.{trace_of}
 use Rattle.text_trace.proofs.Cuts.{cut_here}
