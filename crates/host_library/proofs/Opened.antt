@@ -1,5 +1,5 @@
 -- What is opened of a tree whose leaves are all told what they answer, and what C is told of an opening.
-use Rattle.std.proofs.Common.{◌≡◌, ℕ, List, [], ◌∷◌, Bool, true, false, Option, Some, None, Ok, Err, inl, inr, refl, sym, subst}
+use Rattle.std.proofs.Common.{◌≡◌, ℕ, List, [], ◌∷◌, Bool, true, false, Option, Ok, Err, inl, inr, refl, sym, subst}
 use Rattle.std.specs.Prelude.{Result, MatchBool}
 use Rattle.std.specs.Global.{Global}
 use Rattle.std.specs.declared.boxed.Box.{Box}
@@ -25,7 +25,7 @@ use Rattle.spec_world.specs.declared.world.World.{World}
 use Rattle.tree_elements.proofs.Verdicts.{not_both}
 use Rattle.world_reader.specs.Readings as readings
 use Rattle.host_library.specs.declared.hosted.Hosted.{Hosted}
-use Rattle.host_library.specs.Opening.{Explained, OpenTold, OpensIn, OpensTold, SomeTold, ToldOpens, main_of, session_of, told_stop}
+use Rattle.host_library.specs.Opening.{Explained, Given, OpensIn, OpensTold, SomeTold, ToldOpens, main_of, session_of, told_stop}
 use Rattle.host_library.specs.Texts.{TextTold}
 
 -- the world of its told rows is joined with the tree
@@ -71,16 +71,16 @@ read_told main bytes tree (Err stop.NoMemory) short reads told = tt
 read_told main bytes tree (Err (stop.Fault f)) short reads told = when_short main bytes tree (Err f) (is_too_long bytes) short reads told
 
 -- it is opened
-pub ok_told : (tree world main : List ℕ) (is_text : Bool) (s : Sitting) → is_text ≡ true → OpensIn (main_of main) tree world (Ok s)
-    → OpenTold is_text tree world main 0
-ok_told tree world main is_text s so opens = subst (λ (b : Bool). OpenTold b tree world main 0) (sym so) (inl (refl, s, opens))
+pub ok_given : (tree world main : List ℕ) (is_text : Bool) (hosted : Hosted) → is_text ≡ true → OpensIn (main_of main) tree world (Ok hosted.session)
+    → hosted.outs.items ≡ [] → Given is_text tree world main (Ok hosted)
+ok_given tree world main is_text hosted so opens none = subst (λ (b : Bool). Given b tree world main (Ok hosted)) (sym so) (opens, none)
 
 -- it is refused
-pub refused_as : (tree world main : List ℕ) (is_text : Bool) (given : Result (Box Hosted Global) (Stop OpenFault)) (f : OpenFault) → is_text ≡ true
-    → given ≡ Err (stop.Fault f) → readings.Gives (session_of given) (OpensIn (main_of main) tree world) → OpenTold is_text tree world main 4
-refused_as tree world main is_text given f so is opens =
+pub refused_given : (tree world main : List ℕ) (is_text : Bool) (given : Result (Box Hosted Global) (Stop OpenFault)) (f : OpenFault) → is_text ≡ true
+    → given ≡ Err (stop.Fault f) → readings.Gives (session_of given) (OpensIn (main_of main) tree world) → Given is_text tree world main (Err 4)
+refused_given tree world main is_text given f so is opens =
     let refused = subst (λ (g : Result (Box Hosted Global) (Stop OpenFault)). readings.Gives (session_of g) (OpensIn (main_of main) tree world)) is opens in
-    subst (λ (b : Bool). OpenTold b tree world main 4) (sym so) (inr (inl (refl, f, refused)))
+    subst (λ (b : Bool). Given b tree world main (Err 4)) (sym so) (inl (refl, f, refused))
 
 -- a room into which nothing was put
 untouched : (room : List ℕ) → TextTold [] room 0 room

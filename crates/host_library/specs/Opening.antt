@@ -1,5 +1,6 @@
 -- What the bytes of a tree file and of a world script open for a program in C, which may give no world.
-use Rattle.std.specs.Prelude.{◌≡◌, ◌⊎◌, ℕ, List, [], ◌∷◌, Bool, true, false, MatchBool, Option, Some, None, Result, Ok, Err}
+use Rattle.std.specs.Prelude.{◌≡◌, ◌⊎◌, ℕ, List, [], ◌∷◌, Bool, true, false, MatchBool, Option, Some, None, Result, Ok, Err, IfErr}
+use denote.RawPtr.{Ptr}
 use Rattle.std.specs.Global.{Global}
 use Rattle.std.specs.declared.boxed.Box.{Box}
 use Rattle.base_texts.specs.declared.stop.Stop.{Stop}
@@ -53,12 +54,26 @@ abbrev pub session_of : Result (Box Hosted Global) (Stop OpenFault) → Result S
 session_of (Ok hosted) = Ok hosted.value.session
 session_of (Err stopped) = Err stopped
 
--- C is told this of the opening with a main tree that is asked for by UTF-8, or by other bytes
-abbrev pub OpenTold : Bool → List ℕ → List ℕ → List ℕ → ℕ → Type 0
-OpenTold false tree world main code = code ≡ misuse
-OpenTold true tree world main code =
-    ((code ≡ ok) × (s : Sitting) × OpensIn (main_of main) tree world (Ok s))
-    ⊎ (((code ≡ refused) × (f : OpenFault) × OpensIn (main_of main) tree world (Err f)) ⊎ (code ≡ no_memory))
+-- the session that is handed out in a block of its own, or the code of why there is none
+abbrev pub given_of : Result (Box Hosted Global) ℕ → Result Hosted ℕ
+given_of (Ok hosted) = Ok hosted.value
+given_of (Err code) = Err code
+
+-- this is handed out of the opening with a main tree that is asked for by UTF-8, or by other bytes: the session that the bytes open, with no outputs for the next telling, or the code of why there is none
+abbrev pub Given : Bool → List ℕ → List ℕ → List ℕ → Result Hosted ℕ → Type 0
+Given false tree world main (Ok hosted) = ⊥
+Given false tree world main (Err code) = code ≡ misuse
+Given true tree world main (Ok hosted) = OpensIn (main_of main) tree world (Ok hosted.session) × (hosted.outs.items ≡ [])
+Given true tree world main (Err code) = ((code ≡ refused) × (f : OpenFault) × OpensIn (main_of main) tree world (Err f)) ⊎ (code ≡ no_memory)
+
+-- the code of what is handed out
+abbrev pub opened_code : Result Hosted ℕ → ℕ
+opened_code (Ok hosted) = ok
+opened_code (Err code) = code
+
+-- C is told this of an opening: the code of what is handed out; and where that is nothing, the pointer is as it was
+abbrev pub OpenTold : Bool → List ℕ → List ℕ → List ℕ → Ptr → Ptr → Result Hosted ℕ → ℕ → Type 0
+OpenTold is_text tree world main before after given code = (code ≡ opened_code given) × IfErr given (λ _. after ≡ before) × Given is_text tree world main given
 
 -- C is told some text
 abbrev pub SomeTold : List ℕ → ℕ → List ℕ → Type 0

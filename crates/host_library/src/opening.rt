@@ -1,5 +1,6 @@
 //! How a session is opened, and why it is not.
-ghost use Rattle.std.specs.Prelude.{◌≡◌, ◌≤◌, [], IsUtf8, IfOk, Ok, length};
+ghost use types.Logic.{sem};
+ghost use Rattle.std.specs.Prelude.{◌≡◌, ◌≤◌, [], IsUtf8, IfOk, Ok, Result as ResultOf, length, ℕ as N};
 ghost use Rattle.std.specs.Str.{is_utf8};
 ghost use Rattle.std.specs.Option.{option_copied};
 ghost use Rattle.base_tables.specs.Runnable.{IsRunnable};
@@ -11,7 +12,9 @@ ghost use Rattle.spec_tree.specs.Limits.{most_file_bytes};
 ghost use Rattle.spec_tree.specs.Trees.{IsValid};
 ghost use Rattle.spec_world.specs.Runnable.{IsRunnableWorld};
 ghost use Rattle.world_reader.specs.Readings as readings;
-ghost use Rattle.host_library.specs.Opening.{Explained, OpenTold, OpensIn, OpensTold, SomeTold, ToldOpens, main_of, session_of, told_stop};
+ghost use Rattle.host_library.specs.declared.hosted.Hosted.{Hosted as HostedOf};
+ghost use Rattle.host_library.specs.Opening.{Explained, Given, OpenTold, OpensIn, OpensTold, SomeTold, ToldOpens, given_of, main_of, session_of, told_stop};
+ghost use Rattle.host_library.specs.Owned.{given_owns};
 
 use crate::codes::{MISUSE, NO_MEMORY, OK, REFUSED};
 use crate::hosted::Hosted;
@@ -159,6 +162,23 @@ fn open_boxed(
     }
 }
 
+/// Opens a session in a block of its own. The error is the code of why there is none.
+fn given(alloc: Global, tree: &[u8], world: &[u8], main_id: &[u8]) -> Result<Box<Hosted>, u32>
+    ensures { Given (is_utf8 main_id.now) tree.now world.now main_id.now (given_of result) }
+{
+    if !is_utf8(main_id) {
+        return Err(MISUSE);
+    }
+    match open_boxed(alloc, tree, world, main_id) {
+        Ok(hosted) => Ok(hosted),
+        Err(Stop::Fault(fault)) => {
+            drop(fault);
+            Err(REFUSED)
+        }
+        Err(Stop::NoMemory) => Err(NO_MEMORY),
+    }
+}
+
 /// Opens a session, and hands out its pointer.
 #[unsafe(no_mangle)]
 pub extern "C" fn bt_open(
@@ -168,22 +188,15 @@ pub extern "C" fn bt_open(
     main_id: &[u8],
     out: &mut *mut u8,
 ) -> u32
-    ensures { OpenTold (is_utf8 main_id.now) tree.now world.now main_id.now result }
+    ensures* { ∃ₛ (λ (made : ResultOf HostedOf N). sem 𝓛 (given_owns out.new made)
+        ∗ ⌜ OpenTold (is_utf8 main_id.now) tree.now world.now main_id.now out.old out.new made result ⌝) }
 {
-    if !is_utf8(main_id) {
-        return MISUSE;
-    }
-    match open_boxed(alloc, tree, world, main_id) {
+    match given(alloc, tree, world, main_id) {
         Ok(hosted) => {
-            let (at, _) = Box::into_raw_with_allocator(hosted);
-            *out = at.cast::<u8>();
+            *out = Box::into_raw(hosted).cast::<u8>();
             OK
         }
-        Err(Stop::Fault(fault)) => {
-            drop(fault);
-            REFUSED
-        }
-        Err(Stop::NoMemory) => NO_MEMORY,
+        Err(code) => code,
     }
 }
 
