@@ -1,5 +1,5 @@
 -- What is opened of a tree whose leaves are all told what they answer, and what C is told of an opening.
-use Rattle.std.proofs.Common.{◌≡◌, ℕ, List, [], ◌∷◌, Bool, true, false, Option, Ok, Err, inl, inr, refl, sym, subst}
+use Rattle.std.proofs.Common.{◌≡◌, ◌⊎◌, ℕ, List, [], ◌∷◌, Bool, true, false, Option, Ok, Err, inl, inr, refl, sym, subst}
 use Rattle.std.specs.Prelude.{Result, MatchBool}
 use Rattle.std.specs.Global.{Global}
 use Rattle.std.specs.declared.boxed.Box.{Box}
@@ -25,7 +25,7 @@ use Rattle.spec_world.specs.declared.world.World.{World}
 use Rattle.tree_elements.proofs.Verdicts.{not_both}
 use Rattle.world_reader.specs.Readings as readings
 use Rattle.host_library.specs.declared.hosted.Hosted.{Hosted}
-use Rattle.host_library.specs.Opening.{Explained, Given, OpensIn, OpensTold, SomeTold, ToldOpens, main_of, session_of, told_stop}
+use Rattle.host_library.specs.Opening.{Explained, Given, OpensIn, OpensTold, ToldOpens, main_of, refused_as, session_of, told_stop}
 use Rattle.host_library.specs.Texts.{TextTold}
 
 -- the world of its told rows is joined with the tree
@@ -92,10 +92,12 @@ pub unsaid : (tree world main room : List ℕ) (is_text : Bool) → Explained is
 unsaid tree world main room true = inr (untouched room)
 unsaid tree world main room false = untouched room
 
--- something is told, of files that are refused
+-- why files are refused, as far as there is memory for its line
 pub said_why : (tree world main room after : List ℕ) (size : ℕ) (is_text : Bool) (given : Result Sitting (Stop OpenFault)) (f : OpenFault) → is_text ≡ true
-    → given ≡ Err (stop.Fault f) → readings.Gives given (OpensIn (main_of main) tree world) → SomeTold room size after
-    → Explained is_text tree world main room size after
-said_why tree world main room after size is_text given f so is opens told =
+    → given ≡ Err (stop.Fault f) → readings.Gives given (OpensIn (main_of main) tree world)
+    → TextTold (refused_as f).bytes room size after ⊎ TextTold [] room size after → Explained is_text tree world main room size after
+said_why tree world main room after size is_text given f so is opens (inl told) =
     let refused = subst (λ (g : Result Sitting (Stop OpenFault)). readings.Gives g (OpensIn (main_of main) tree world)) is opens in
     subst (λ (b : Bool). Explained b tree world main room size after) (sym so) (inl (f, refused, told))
+said_why tree world main room after size is_text given f so is opens (inr nothing) =
+    subst (λ (b : Bool). Explained b tree world main room size after) (sym so) (inr nothing)
