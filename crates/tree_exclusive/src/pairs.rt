@@ -43,7 +43,8 @@ fn keep_each(
     meeting: Meeting,
     pairs: &mut Vec<Pair>,
 ) -> Result<(), NoMemory>
-    ensures { OnOk result (pairs.new.items ≡ pairs.old.items ++ take (100 - length pairs.old.items) (map (λ u. pair_of earlier u meeting) later.now)) }
+    ensures { OnOk result (pairs.new.items
+        ≡ pairs.old.items ++ take (100 - length pairs.old.items) (map (λ u. pair_of earlier u meeting) later.now)) }
 {
     for uid in later {
         if pairs.len() >= MOST_PAIRS {
