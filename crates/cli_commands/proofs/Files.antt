@@ -387,10 +387,10 @@ module _ (main : Option (List ℕ)) (tree world expect : List ℕ) (st : length 
 
   -- the tree and the world were parsed
   pub both_expected : (t : Tree) (w : World) (result : Result Exit Refusal) (a b : Side) → ReadsAs (Ok t) main tree → ReadsWorld world (Ok w)
-      → EndsAt (λ moments drivers. JoinExpects (lack_of t w drivers) (setup t w) expect drivers) AreUncalled result a b → EndsAt Expecting AreUncalled result a b
+      → EndsAt (λ moments drivers. JoinExpects (lack_of t w drivers) (setup t w) expect) AreUncalled result a b → EndsAt Expecting AreUncalled result a b
   both_expected t w result a b reads described ends =
-      at_more a.clock (λ moments. Ends (JoinExpects (lack_of t w a.drivers) (setup t w) expect a.drivers) AreUncalled result a b) (λ moments. Ends (Expecting moments a.drivers) AreUncalled result a b)
-      (λ moments. ends_more (JoinExpects (lack_of t w a.drivers) (setup t w) expect a.drivers) (Expecting moments a.drivers) AreUncalled AreUncalled
+      at_more a.clock (λ moments. Ends (JoinExpects (lack_of t w a.drivers) (setup t w) expect) AreUncalled result a b) (λ moments. Ends (Expecting moments a.drivers) AreUncalled result a b)
+      (λ moments. ends_more (JoinExpects (lack_of t w a.drivers) (setup t w) expect) (Expecting moments a.drivers) AreUncalled AreUncalled
       (λ o e. expect_gives moments a.drivers (Ok t) o reads (Ok w, described, e)) (λ old new begun. begun) result a b) ends
 
 -- memory ran out when the files of a load were made

@@ -50,5 +50,5 @@ module _ {Shelf : Type 0} (read_gives : Reading Shelf) (leaves : ℕ) (rose : Ty
         each_more (Some holds) load a (λ o. Gave o result a b ⊎ ReadFailed rose IsUnread result a b) (λ o. Gave o result a b) not_failed
         (each_of (Some holds) result rose IsUnread a b one cuts load command_answered)
 
-    pub load_begun : OneReading → CutLaw → EachOutput (Some holds) load a (λ o. DriversWithin o.drivers a.drivers b.drivers)
+    pub load_begun : OneReading → CutLaw → EachOutput (Some holds) load a (λ o. DriversWithin o.calls a.drivers b.drivers)
     load_begun one cuts = begun_of (Some holds) result rose IsUnread a b one cuts load command_answered
