@@ -19,14 +19,10 @@ module _ {Shelf : Type 0} (read_gives : Reading Shelf) (leaves : ℕ) (rose : Ty
 
   -- no read can have given a fault, and no bytes had to be told
   over_any : (end : ReadsEnd) → AreRead read_gives told [] end x y → AnsweredAfter load told rose end result a b → WordsAnswered read_gives (Some holds) load rose x y result a b
-  over_any AllRead reads answered = record {
-    end = AllRead;
+  over_any (AllRead files) reads answered = record {
+    end = AllRead files;
     reads = reads;
-    answered = record {
-      files = answered.files;
-      told = record { told = record { tree = tt; world = tt; rules = tt; expect = tt }; short = answered.told.short };
-      answers = answered.answers;
-    };
+    answered = (record { told = record { tree = tt; world = tt; rules = tt; expect = tt }; short = answered.0.short }, answered.1);
   }
   over_any (StoppedAt which gave) reads answered = absurd reads
 
