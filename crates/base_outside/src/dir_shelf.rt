@@ -137,5 +137,5 @@ impl<R: Files + Drop> Shelf for DirShelf<R> {
         answer
     }
 
-    ghost failure_counts = { λ _ _ _ counted. counted };
+    ghost failure_counts = { λ _ _ _ _ counted. counted };
 }

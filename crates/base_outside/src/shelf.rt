@@ -1,10 +1,9 @@
-ghost use Rattle.std.specs.Prelude.{◌≡◌, ◌<◌, ◌≤◌, ◌+◌, ◌-◌, ◌^◌, List, [], ℕ, Option, Result, Err, OnOk, IsErrOf, length};
+ghost use Rattle.std.specs.Prelude.{◌≡◌, ◌<◌, ◌≤◌, ◌+◌, ◌-◌, ◌^◌, List, [], ℕ, Option, Result, OnOk, IsErrOf, length};
 ghost use Rattle.spec_outside.specs.Counts.{Rose};
-ghost use Rattle.base_outside.specs.Counts.{next};
 ghost use Rattle.spec_outside.specs.Files.{Told};
 ghost use Rattle.base_outside.specs.Files.{IsPrefix};
+ghost use Rattle.base_outside.specs.Reads.{count_after, given};
 ghost use Rattle.spec_outside.specs.declared.shelf_fault.ShelfFault.{ShelfFault};
-ghost use Rattle.spec_outside.specs.declared.shelf_fault.ShelfFault.TheVariants as fault;
 
 use base_texts::Name;
 use spec_outside::ShelfFault;
@@ -17,8 +16,8 @@ pub trait Shelf {
     /// The count of failures. It never falls.
     ghost faults: { Self → ℕ };
 
-    /// A read of this name gives this answer and leads from the first state to the second.
-    ghost read_gives: { Self → List ℕ → Result (Unit {0}) ShelfFault → Self → Type 0 };
+    /// A read of this name gives these bytes or this fault, and leads from the first state to the second.
+    ghost read_gives: { Self → List ℕ → Result (List ℕ) ShelfFault → Self → Type 0 };
 
     /// Reads the file of this name, of at most `limit` bytes, into the empty room.
     ///
@@ -29,7 +28,7 @@ pub trait Shelf {
         requires empty { room.old.items ≡ [] }
         requires below_last { limit < 2 ^ 64 - 1 }
 
-        ensures gives { read_gives self.old name.now result self.new }
+        ensures gives { read_gives self.old name.now (given result room.new.items) self.new }
         ensures holds { holds self.new ≡ holds self.old }
         ensures count { faults self.old ≤ faults self.new }
 
@@ -41,7 +40,7 @@ pub trait Shelf {
         ensures longer { IsErrOf result ShelfFault.TooLong → Told (holds self.old) name.now (λ file. limit < length file) }
         ensures prefix { Told (holds self.old) name.now (λ file. IsPrefix room.new.items file) };
 
-    /// A read that fails raises the count of failures by one, up to its last value.
-    ghost failure_counts: { (old new : Self) → (name : List ℕ) → read_gives old name (Err fault.Failed) new
-        → faults new ≡ next (faults old) };
+    /// A read that fails raises the count of failures by one, up to its last value, and no other read changes it.
+    ghost failure_counts: { (old new : Self) → (name : List ℕ) → (gave : Result (List ℕ) ShelfFault)
+        → read_gives old name gave new → faults new ≡ count_after gave (faults old) };
 }

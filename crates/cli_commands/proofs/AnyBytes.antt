@@ -86,21 +86,21 @@ module _ {Shelf : Type 0} (read_gives : Reading Shelf) (holds : Option (List ℕ
     alone_long world long (inl x) =
         let l = x.1.0 in
         long_answered (world_alone world) (alone l.bytes) file.World x.0 (record { tree = tt; world = l.told; rules = tt; expect = tt }) (λ moments. long l.bytes moments a.drivers l.long)
-    alone_long world long (inr x) = absurd x.3
+    alone_long world long (inr x) = absurd x.1.3
 
     -- of a tree file alone
     tree_alone_long : (tree : List ℕ) → LongTree Gives → IsRead (in_order (tree_alone tree)) old → Answered (tree_alone tree) Gives Begins
     tree_alone_long tree long (inl x) = tree_long tree None None None long x.0 x.1.0
-    tree_alone_long tree long (inr x) = absurd x.3
+    tree_alone_long tree long (inr x) = absurd x.1.3
 
     -- of both files of a run
     second_long : (tree world : List ℕ) (found : Shelf) → LongWorld Gives → Within holds tree → IsRead ((file.World, world) ∷ []) found → Answered (tree_and_world tree world) Gives Begins
     second_long tree world found long t (inl x) = world_long tree world None None long x.0 t x.1.0
-    second_long tree world found long t (inr x) = absurd x.3
+    second_long tree world found long t (inr x) = absurd x.1.3
 
     both_long : (tree world : List ℕ) → LongTree Gives → LongWorld Gives → IsRead (in_order (tree_and_world tree world)) old → Answered (tree_and_world tree world) Gives Begins
     both_long tree world first second (inl x) = tree_long tree (Some world) None None first x.0 x.1.0
-    both_long tree world first second (inr x) = second_long tree world x.0 second (within holds tree x.2) x.3
+    both_long tree world first second (inr x) = second_long tree world x.1.0 second (within holds tree x.1.2) x.1.3
 
     -- of a tree file and a rules file
     rules_after : (tree rules : List ℕ) (found : Shelf) → LongLast Gives → Within holds tree → IsRead ((file.Rules, rules) ∷ []) found → Answered (tree_and_rules tree rules) Gives Begins
@@ -108,37 +108,37 @@ module _ {Shelf : Type 0} (read_gives : Reading Shelf) (holds : Option (List ℕ
         let l = x.1.0 in
         let files : Contents = record { tree = t.bytes; world = []; rules = l.bytes; expect = [] } in
         long_answered (tree_and_rules tree rules) files file.Rules x.0 (record { tree = t.told; world = tt; rules = l.told; expect = tt }) (λ moments. long files moments a.drivers t.short l.long)
-    rules_after tree rules found long t (inr x) = absurd x.3
+    rules_after tree rules found long t (inr x) = absurd x.1.3
 
     tree_rules_long : (tree rules : List ℕ) → LongTree Gives → LongLast Gives → IsRead (in_order (tree_and_rules tree rules)) old → Answered (tree_and_rules tree rules) Gives Begins
     tree_rules_long tree rules first second (inl x) = tree_long tree None (Some rules) None first x.0 x.1.0
-    tree_rules_long tree rules first second (inr x) = rules_after tree rules x.0 second (within holds tree x.2) x.3
+    tree_rules_long tree rules first second (inr x) = rules_after tree rules x.1.0 second (within holds tree x.1.2) x.1.3
 
     -- of the three files of a run of mocks
     last_long : (tree world rules : List ℕ) (found : Shelf) → LongRules Gives → Within holds tree → Within holds world → IsRead ((file.Rules, rules) ∷ []) found → Answered (tree_world_rules tree world rules) Gives Begins
     last_long tree world rules found long t w (inl x) = rules_long tree world rules long x.0 t w x.1.0
-    last_long tree world rules found long t w (inr x) = absurd x.3
+    last_long tree world rules found long t w (inr x) = absurd x.1.3
 
     later_long : (tree world rules : List ℕ) (found : Shelf) → LongWorld Gives → LongRules Gives → Within holds tree → IsRead ((file.World, world) ∷ (file.Rules, rules) ∷ []) found → Answered (tree_world_rules tree world rules) Gives Begins
     later_long tree world rules found second third t (inl x) = world_long tree world (Some rules) None second x.0 t x.1.0
-    later_long tree world rules found second third t (inr x) = last_long tree world rules x.0 third t (within holds world x.2) x.3
+    later_long tree world rules found second third t (inr x) = last_long tree world rules x.1.0 third t (within holds world x.1.2) x.1.3
 
     three_long : (tree world rules : List ℕ) → LongTree Gives → LongWorld Gives → LongRules Gives → IsRead (in_order (tree_world_rules tree world rules)) old → Answered (tree_world_rules tree world rules) Gives Begins
     three_long tree world rules first second third (inl x) = tree_long tree (Some world) (Some rules) None first x.0 x.1.0
-    three_long tree world rules first second third (inr x) = later_long tree world rules x.0 second third (within holds tree x.2) x.3
+    three_long tree world rules first second third (inr x) = later_long tree world rules x.1.0 second third (within holds tree x.1.2) x.1.3
 
     -- of the three files of a run of which something is expected
     last_expect : (tree world expect : List ℕ) (found : Shelf) → LongExpect Gives → Within holds tree → Within holds world → IsRead ((file.Expect, expect) ∷ []) found → Answered (tree_world_expect tree world expect) Gives Begins
     last_expect tree world expect found long t w (inl x) = expect_long tree world expect long x.0 t w x.1.0
-    last_expect tree world expect found long t w (inr x) = absurd x.3
+    last_expect tree world expect found long t w (inr x) = absurd x.1.3
 
     later_expect : (tree world expect : List ℕ) (found : Shelf) → LongWorld Gives → LongExpect Gives → Within holds tree → IsRead ((file.World, world) ∷ (file.Expect, expect) ∷ []) found → Answered (tree_world_expect tree world expect) Gives Begins
     later_expect tree world expect found second third t (inl x) = world_long tree world None (Some expect) second x.0 t x.1.0
-    later_expect tree world expect found second third t (inr x) = last_expect tree world expect x.0 third t (within holds world x.2) x.3
+    later_expect tree world expect found second third t (inr x) = last_expect tree world expect x.1.0 third t (within holds world x.1.2) x.1.3
 
     expect_three : (tree world expect : List ℕ) → LongTree Gives → LongWorld Gives → LongExpect Gives → IsRead (in_order (tree_world_expect tree world expect)) old → Answered (tree_world_expect tree world expect) Gives Begins
     expect_three tree world expect first second third (inl x) = tree_long tree (Some world) None (Some expect) first x.0 x.1.0
-    expect_three tree world expect first second third (inr x) = later_expect tree world expect x.0 second third (within holds tree x.2) x.3
+    expect_three tree world expect first second third (inr x) = later_expect tree world expect x.1.0 second third (within holds tree x.1.2) x.1.3
 
   -- the limits of a plan
   abbrev limits_of : ℕ → ℕ → ℕ → Limits
@@ -179,7 +179,7 @@ ran_out holds c result a b out =
 module _ {Shelf : Type 0} (read_gives : Reading Shelf) (holds : Option (List ℕ → List ℕ)) (rose : Type 0) (old new : Shelf) (result : Exit) (a b : Side) where
   answered_by : (c : Command) (end : ReadsEnd) → AreRead read_gives holds (in_order (files_of c)) end old new → AnsweredAfter (Some c) holds rose end result a b
       → CommandAnswered (Some c) holds rose (WordsUnread read_gives holds (Some c) old new) result a b
-  answered_by c AllRead reads f = inr (record { files = f.files; told = f.told.told; answers = f.answers })
+  answered_by c (AllRead files) reads f = inr (record { files = files; told = f.0.told; answers = f.1 })
   answered_by c (StoppedAt which fault.Failed) reads x = inl (x.0, which, reads, x.1)
   answered_by c (StoppedAt which fault.TooLong) reads gave = inr (command_long read_gives holds which old new result a b gave c reads)
   answered_by c (StoppedAt which fault.NoMemory) reads out = inr (ran_out holds c result a b out)

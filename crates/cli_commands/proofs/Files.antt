@@ -42,7 +42,7 @@ use Rattle.spec_program.specs.Exclusives.{ExclusiveGives, Exclusives, exclusive_
 use Rattle.spec_program.specs.Printed.{print_made, print_output}
 use Rattle.spec_outside.specs.declared.shelf_fault.ShelfFault.{ShelfFault}
 use Rattle.spec_outside.specs.declared.shelf_fault.ShelfFault.TheVariants as shelf
-use Rattle.spec_program.specs.Reads.{AllRead, AreRead, NamedFile, Reading, ReadsEnd, StoppedAt, if_named, in_order}
+use Rattle.spec_program.specs.Reads.{AllRead, AreRead, NamedFile, Reading, StoppedAt, bytes_of, if_named, in_order}
 use Rattle.cli_commands.specs.NamedReads.{AreStopped, IsUnreadIfNamed, WasReadIfNamed, refusal_of}
 use Rattle.cli_commands.specs.Unread.{IsUnread}
 use Rattle.tree_reader.specs.TreeRead.{ReadsAs}
@@ -254,16 +254,21 @@ module _ {Shelf : Type 0} (read_gives : Reading Shelf) (faults : Shelf → ℕ) 
   short_of (Some name) bytes old new read = read.short
 
   -- the first file was read, and then the others
-  pub read_first : (which : File) (name : Option (List ℕ)) (files : List NamedFile) (bytes : List ℕ) (old between new : Shelf) (end : ReadsEnd) → IsRead name bytes old between
-      → AreRead read_gives holds files end between new → AreRead read_gives holds (if_named which name ++ files) end old new
-  read_first which None files bytes old between new end read rest = subst (λ (s : Shelf). AreRead read_gives holds files end s new) read.1 rest
-  read_first which (Some name) files bytes old between new AllRead read rest = (between, read.gave, told_short holds name bytes read.told read.short, rest)
-  read_first which (Some name) files bytes old between new (StoppedAt other gave) read rest = inr (between, read.gave, told_short holds name bytes read.told read.short, rest)
+  pub read_first : (which : File) (name : Option (List ℕ)) (files : List NamedFile) (contents : Contents) (old between new : Shelf) → IsRead name (bytes_of contents which) old between
+      → AreRead read_gives holds files (AllRead contents) between new → AreRead read_gives holds (if_named which name ++ files) (AllRead contents) old new
+  read_first which None files contents old between new read rest = subst (λ (s : Shelf). AreRead read_gives holds files (AllRead contents) s new) read.1 rest
+  read_first which (Some name) files contents old between new read rest = (between, read.gave, told_short holds name (bytes_of contents which) read.told read.short, rest)
 
   -- .. of which there are no others
-  pub read_last : (which : File) (name : Option (List ℕ)) (bytes : List ℕ) (old new : Shelf) → IsRead name bytes old new → AreRead read_gives holds (if_named which name) AllRead old new
-  read_last which None bytes old new read = read.1
-  read_last which (Some name) bytes old new read = (new, read.gave, told_short holds name bytes read.told read.short, refl)
+  pub read_last : (which : File) (name : Option (List ℕ)) (contents : Contents) (old new : Shelf) → IsRead name (bytes_of contents which) old new → AreRead read_gives holds (if_named which name) (AllRead contents) old new
+  read_last which None contents old new read = read.1
+  read_last which (Some name) contents old new read = (new, read.gave, told_short holds name (bytes_of contents which) read.told read.short, refl)
+
+  -- .. or the reads of the others ended at one
+  stop_after : (which : File) (name : Option (List ℕ)) (files : List NamedFile) (bytes : List ℕ) (old between new : Shelf) (other : File) (gave : ShelfFault) → IsRead name bytes old between
+      → AreRead read_gives holds files (StoppedAt other gave) between new → AreRead read_gives holds (if_named which name ++ files) (StoppedAt other gave) old new
+  stop_after which None files bytes old between new other gave read rest = subst (λ (s : Shelf). AreRead read_gives holds files (StoppedAt other gave) s new) read.1 rest
+  stop_after which (Some name) files bytes old between new other gave read rest = inr (bytes, (between, read.gave, told_short holds name bytes read.told read.short, rest))
 
   -- .. of which one was refused
   pub stop_later : (which : File) (name : Option (List ℕ)) (files : List NamedFile) (bytes : List ℕ) (old between new : Shelf) (r : Refusal) → faults old ≤ faults between → IsRead name bytes old between
@@ -271,7 +276,7 @@ module _ {Shelf : Type 0} (read_gives : Reading Shelf) (faults : Shelf → ℕ) 
   stop_later which name files bytes old between new r less read rest = record {
     which = rest.which;
     gave = rest.gave;
-    reads = read_first which name files bytes old between new (StoppedAt rest.which rest.gave) read rest.reads;
+    reads = stop_after which name files bytes old between new rest.which rest.gave read rest.reads;
     rose = λ failed. Rose-after (faults old) (faults between) (faults new) less (rest.rose failed);
     is = rest.is;
   }
@@ -387,10 +392,10 @@ module _ (main : Option (List ℕ)) (tree world expect : List ℕ) (st : length 
 
   -- the tree and the world were parsed
   pub both_expected : (t : Tree) (w : World) (result : Result Exit Refusal) (a b : Side) → ReadsAs (Ok t) main tree → ReadsWorld world (Ok w)
-      → EndsAt (λ moments drivers. JoinExpects (lack_of t w drivers) (setup t w) expect drivers) AreUncalled result a b → EndsAt Expecting AreUncalled result a b
+      → EndsAt (λ moments drivers. JoinExpects (lack_of t w drivers) (setup t w) expect) AreUncalled result a b → EndsAt Expecting AreUncalled result a b
   both_expected t w result a b reads described ends =
-      at_more a.clock (λ moments. Ends (JoinExpects (lack_of t w a.drivers) (setup t w) expect a.drivers) AreUncalled result a b) (λ moments. Ends (Expecting moments a.drivers) AreUncalled result a b)
-      (λ moments. ends_more (JoinExpects (lack_of t w a.drivers) (setup t w) expect a.drivers) (Expecting moments a.drivers) AreUncalled AreUncalled
+      at_more a.clock (λ moments. Ends (JoinExpects (lack_of t w a.drivers) (setup t w) expect) AreUncalled result a b) (λ moments. Ends (Expecting moments a.drivers) AreUncalled result a b)
+      (λ moments. ends_more (JoinExpects (lack_of t w a.drivers) (setup t w) expect) (Expecting moments a.drivers) AreUncalled AreUncalled
       (λ o e. expect_gives moments a.drivers (Ok t) o reads (Ok w, described, e)) (λ old new begun. begun) result a b) ends
 
 -- memory ran out when the files of a load were made
@@ -431,8 +436,8 @@ module _ {Shelf : Type 0} (read_gives : Reading Shelf) (holds : Option (List ℕ
   Comes files result a b = EndsAt (FilesGive command files) (FilesBegin command files) result a b
 
   -- over what was read, with an exit
-  pub exit_answered : (files : Contents) (exit : Exit) (a b : Side) → AreRead read_gives holds (in_order (files_of command)) AllRead old new → AreWithin holds (files_of command) files → Comes files (Ok exit) a b → Answer exit a b
-  exit_answered files exit a b reads within ends = record { end = AllRead; reads = reads; answered = record { files = files; told = within; answers = ends } }
+  pub exit_answered : (files : Contents) (exit : Exit) (a b : Side) → AreRead read_gives holds (in_order (files_of command)) (AllRead files) old new → AreWithin holds (files_of command) files → Comes files (Ok exit) a b → Answer exit a b
+  exit_answered files exit a b reads within ends = record { end = AllRead files; reads = reads; answered = (within, ends) }
 
   refused_answers : (P : Output → Type 0) (H : Begun) (o : Option Output) (end : Exit) (a b : Side) (written : Option (List ℕ)) (faults : ℕ) → (AreUncalled a.drivers b.drivers → H a.drivers b.drivers) → IfSome o P → IsUntouched a b
       → MatchOption o ((end ≡ exit.Memory) × (written ≡ b.written)) (λ o. Printed o end b.written b.faults written faults) → Answers P H end a (side written faults b.clock b.drivers)
@@ -440,19 +445,18 @@ module _ {Shelf : Type 0} (read_gives : Reading Shelf) (holds : Option (List ℕ
   refused_answers P H (Some o) end a b written faults begun is same x = inl (o, is, gave_after o end a b written faults same x)
 
   -- .. with a refusal, whose line was then written
-  pub refusal_answered : (files : Contents) (r : Refusal) (end : Exit) (a b : Side) (written : Option (List ℕ)) (faults : ℕ) → AreRead read_gives holds (in_order (files_of command)) AllRead old new → AreWithin holds (files_of command) files
+  pub refusal_answered : (files : Contents) (r : Refusal) (end : Exit) (a b : Side) (written : Option (List ℕ)) (faults : ℕ) → AreRead read_gives holds (in_order (files_of command)) (AllRead files) old new → AreWithin holds (files_of command) files
       → Comes files (Err r) a b → IsRefused r end b.written b.faults written faults → Answer end a (side written faults b.clock b.drivers)
   refusal_answered files r end a b written faults reads within ends refused = record {
-    end = AllRead;
+    end = AllRead files;
     reads = reads;
-    answered = record {
-      files = files;
-      told = within;
-      answers = at_more a.clock (λ moments. Ends (FilesGive command files moments a.drivers) (FilesBegin command files) (Err r) a b)
+    answered = (
+      within,
+      at_more a.clock (λ moments. Ends (FilesGive command files moments a.drivers) (FilesBegin command files) (Err r) a b)
           (λ moments. Answers (FilesGive command files moments a.drivers) (FilesBegin command files) end a (side written faults b.clock b.drivers))
           (λ moments x. refused_answers (FilesGive command files moments a.drivers) (FilesBegin command files) (refused_as r) end a b written faults
-          (uncalled_begin command files a.drivers b.drivers) x.0 x.1 refused) ends;
-    };
+          (uncalled_begin command files a.drivers b.drivers) x.0 x.1 refused) ends,
+    );
   }
 
   fault_answered : (which : File) (gave : ShelfFault) (end : Exit) (a : Side) (written : Option (List ℕ)) (faults : ℕ) → (gave ≡ shelf.Failed → rose) → IsRefused (refusal_of which gave) end a.written a.faults written faults

@@ -2,17 +2,19 @@
 use Rattle.std.specs.Prelude.{ℕ, List, Option, Some, None, ◌⊎◌}
 use Rattle.spec_program.specs.declared.exit.Exit.{Exit}
 use Rattle.spec_program.specs.declared.file.File.{File}
-use Rattle.spec_program.specs.Files.{Named}
+use Rattle.spec_program.specs.Files.{Contents, Named}
 use Rattle.spec_program.specs.Jobs.{FilesBegin, FilesGive, files_of}
 use Rattle.spec_program.specs.Gives.{Beginning, Giving}
 use Rattle.spec_program.specs.Refused.{words_refused}
 use Rattle.spec_program.specs.Words.{Command}
 use Rattle.spec_program.specs.Answers.{Side, Gave}
-use Rattle.spec_program.specs.Answered.{AreTold, GaveFiles, ReadFailed}
+use Rattle.spec_program.specs.Answered.{AreTold, GaveOf, ReadFailed}
 
--- the output of files that may be named was given
-abbrev pub FilesAnswered : Option (List ℕ → List ℕ) → Named → Giving → Beginning → Exit → Side → Side → Type 0
-FilesAnswered holds named Gives Begins result old new = GaveFiles (AreTold holds named) Gives Begins result old new
+-- the output of files that may be named was given, of their bytes as far as the shelf tells them
+pub record FilesAnswered (holds : Option (List ℕ → List ℕ)) (named : Named) (Gives : Giving) (Begins : Beginning) (result : Exit) (old new : Side) : Type 0 where
+  pub files : Contents
+  pub told : AreTold holds named files
+  pub answers : GaveOf files Gives Begins result old new
 
 -- What words were answered, also by a shelf or a clock that tells nothing: the output of some bytes of its files and of
 -- some moments was given, or the line of a file whose read failed; or the words are no command.

@@ -13,7 +13,7 @@ use Rattle.cli_refusals.specs.declared.refusal.Refusal.TheVariants as refusal
 
 -- a read gave these bytes of a file, which are those that the shelf tells
 pub record WasRead {Shelf : Type 0} (read_gives : Reading Shelf) (holds : Option (List ℕ → List ℕ)) (name bytes : List ℕ) (old new : Shelf) : Type 0 where
-  pub gave : read_gives old name (Ok tt) new
+  pub gave : read_gives old name (Ok bytes) new
   pub told : Told holds name (λ file. bytes ≡ file)
   pub short : length bytes ≤ most_file_bytes
 

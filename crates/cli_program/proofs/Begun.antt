@@ -13,7 +13,7 @@ use Rattle.spec_tree.specs.declared.term.Tree.{Tree}
 use Rattle.spec_world.specs.declared.world.World.{World}
 use Rattle.spec_world_file.specs.declared.world_fault.WorldFault.{WorldFault}
 use Rattle.spec_run.specs.Drivers.{DriverState, driver_at}
-use Rattle.spec_run.specs.Run.{RunnerCall, opening, run as run_of_script, run_over}
+use Rattle.spec_run.specs.Run.{RunnerCall, opening, run as run_of_script}
 use Rattle.spec_expect.specs.declared.expect_fault.ExpectFault.{ExpectFault}
 use Rattle.spec_expect.specs.declared.expectation.Expected.{Expected}
 use Rattle.spec_program.specs.Expecting.{ExpectGives, JoinExpects, TreeExpects, WorldExpects, expect_output, expecting, setup}
@@ -24,7 +24,7 @@ use Rattle.spec_outside.specs.Appending.{AppendedPrefix}
 use Rattle.spec_outside.specs.Moments.{Moments}
 use Rattle.cli_commands.proofs.Files.{short_is}
 use Rattle.cli_answers.proofs.AboutCourses.Within.{as_often, uncalled_within}
-use Rattle.spec_program.specs.Answers.{ClockLeft, ClockWithin, DriversLeft, DriversWithin, Gave, RanOut, Side}
+use Rattle.spec_program.specs.Answers.{ClockLeft, ClockWithin, DriversCutOff, DriversLeft, DriversRanOut, DriversWithin, Gave, RanOut, Side}
 use Rattle.spec_program.specs.declared.course.Course.{Course}
 use Rattle.spec_program.specs.declared.course.Course.TheVariants as course
 use Rattle.spec_program.specs.declared.print.Print.{Print}
@@ -38,7 +38,7 @@ use Rattle.spec_program.specs.Files.{Contents}
 use Rattle.spec_program.specs.Grounds.{GroundBegun, GroundGives, GroundPlanGives, GroundedPlans, SaidPlans}
 use Rattle.spec_program.specs.Printed.{ground_output, print_made, print_output}
 use Rattle.spec_program.specs.Jobs.{FilesBegin, FilesGive}
-use Rattle.spec_program.specs.Output.{AreUncalled, Asked, Never, Output, Times, UpToFault, line_of}
+use Rattle.spec_program.specs.Output.{AreUncalled, Asked, Calls, Never, NoCalls, OfPlan, OfRun, Output, Times, UpToFault, line_of}
 use Rattle.spec_program.specs.Courses.{Given, given, joined_output, run_output}
 use Rattle.spec_run.specs.Joins.{lack_of}
 use Rattle.spec_exclusive.specs.declared.pair.Pair.{Pair}
@@ -53,6 +53,7 @@ use Rattle.spec_plan.specs.declared.ending.Limits.{Limits}
 use Rattle.spec_plan.specs.declared.ending.PlanEnd.{PlanEnd}
 use Rattle.cli_program.specs.LawWords.{IsNotLive}
 use Rattle.spec_program.specs.declared.tree_fault.TreeFault.{TreeFault}
+use Rattle.text_trace.proofs.Cuts.{cut_off_has_begun_within}
 use Rattle.text_trace.proofs.Unbegun.{none_begin}
 use Rattle.spec_output.specs.Cuts.{HaveBegunWithin}
 use Rattle.spec_output.specs.Rounds.{moments_after}
@@ -96,26 +97,26 @@ module _ (Q : Output → Type 0) (line : (bytes : List ℕ) (exit : Exit) → Q 
       (λ p2. by_length (is_too_long rules) o (too_long file.Rules) _ (line _ exit.Rules) p2 (λ p3. by_tree p3.0 (mocked rules) world g o run p3.2)))
 
   -- .. of a run of which something is expected
-  abbrev OfExpecting : List DriverState → Type 0
-  OfExpecting drivers = (of : Setup) (expected : List Expected) → Q (expecting expected of drivers (run_of_script of.tree of.world))
+  abbrev OfExpecting : Type 0
+  OfExpecting = (of : Setup) (expected : List Expected) → Q (expecting expected of (run_of_script of.tree of.world))
 
-  by_expected : (read : Result (List Expected) ExpectFault) (of : Setup) (drivers : List DriverState) → OfExpecting drivers → Q (expect_output read of drivers)
-  by_expected (Ok expected) of drivers run = run of expected
-  by_expected (Err fault) of drivers run = line _ exit.Expect
+  by_expected : (read : Result (List Expected) ExpectFault) (of : Setup) → OfExpecting → Q (expect_output read of)
+  by_expected (Ok expected) of run = run of expected
+  by_expected (Err fault) of run = line _ exit.Expect
 
-  by_joined : (lack : Option JoinFault) (of : Setup) (expect : List ℕ) (drivers : List DriverState) (o : Output) → OfExpecting drivers → JoinExpects lack of expect drivers o → Q o
-  by_joined None of expect drivers o run p = same_output o (expect_output p.0 of drivers) p.2 (by_expected p.0 of drivers run)
-  by_joined (Some fault) of expect drivers o run p = same_output o _ p (line _ exit.World)
+  by_joined : (lack : Option JoinFault) (of : Setup) (expect : List ℕ) (o : Output) → OfExpecting → JoinExpects lack of expect o → Q o
+  by_joined None of expect o run p = same_output o (expect_output p.0 of) p.2 (by_expected p.0 of run)
+  by_joined (Some fault) of expect o run p = same_output o _ p (line _ exit.World)
 
-  by_expecting_world : (described : Result World WorldFault) (tree : Tree) (expect : List ℕ) (drivers : List DriverState) (o : Output) → OfExpecting drivers → WorldExpects described tree expect drivers o → Q o
-  by_expecting_world (Ok world) tree expect drivers o run p = by_joined (lack_of tree world drivers) (setup tree world) expect drivers o run p
+  by_expecting_world : (described : Result World WorldFault) (tree : Tree) (expect : List ℕ) (drivers : List DriverState) (o : Output) → OfExpecting → WorldExpects described tree expect drivers o → Q o
+  by_expecting_world (Ok world) tree expect drivers o run p = by_joined (lack_of tree world drivers) (setup tree world) expect o run p
   by_expecting_world (Err fault) tree expect drivers o run p = same_output o (world_refused fault) p (line _ exit.World)
 
-  by_expecting_tree : (read : Result Tree TreeFault) (world expect : List ℕ) (drivers : List DriverState) (o : Output) → OfExpecting drivers → TreeExpects read world expect drivers o → Q o
+  by_expecting_tree : (read : Result Tree TreeFault) (world expect : List ℕ) (drivers : List DriverState) (o : Output) → OfExpecting → TreeExpects read world expect drivers o → Q o
   by_expecting_tree (Ok tree) world expect drivers o run p = by_expecting_world p.0 tree expect drivers o run p.2
   by_expecting_tree (Err fault) world expect drivers o run p = same_output o (tree_refused fault) p (line _ exit.Tree)
 
-  of_expects : (main : Option (List ℕ)) (tree world expect : List ℕ) (moments : Moments) (drivers : List DriverState) (o : Output) → OfExpecting drivers → ExpectGives main tree world expect moments drivers o → Q o
+  of_expects : (main : Option (List ℕ)) (tree world expect : List ℕ) (moments : Moments) (drivers : List DriverState) (o : Output) → OfExpecting → ExpectGives main tree world expect moments drivers o → Q o
   of_expects main tree world expect moments drivers o run p =
       by_length (is_too_long tree) o (too_long file.Tree) _ (line _ exit.Tree) p
       (λ p1. by_length (is_too_long world) o (too_long file.World) _ (line _ exit.World) p1
@@ -215,129 +216,153 @@ WorldLaw = (bytes : List ℕ) (a b : Result World WorldFault) → ReadsWorld byt
 
 -- what drivers were asked for is within what an output says of them
 abbrev Within : List DriverState → List DriverState → Output → Type 0
-Within old new o = DriversWithin o.drivers old new
+Within old new o = DriversWithin o.calls old new
 
--- no driver was called
-module _ (old new : List DriverState) (same : AreUncalled old new) where
-  -- what was begun before a run is within it
-  before_run : (tree : Tree) (world : World) (calls : List RunnerCall) → HaveBegunWithin old new (roster_after_run tree world old calls)
-  before_run tree world calls place =
-      let risen = (run_same tree world old calls).totals place in
-      let starts : (driver_at new place).totals.starts ≡ (driver_at old place).totals.starts = ap (λ (t : Totals). t.starts) (same place) in
-      let runnings : (driver_at new place).totals.runnings ≡ (driver_at old place).totals.runnings = ap (λ (t : Totals). t.runnings) (same place) in
-      record {
-        starts = λ few. let more = risen.starts few in omega (arith, starts, more.0);
-        runnings = λ few. let more = risen.runnings few in omega (arith, runnings, more.0);
-      }
+-- memory ran out before an output was known of which this is so, and nothing was written
+abbrev Unwritten : Side → Side → Output → Type 0
+Unwritten old new o = DriversRanOut o.calls old new
 
-  within_run : (course : Course) (main : Option (List ℕ)) (tree world : List ℕ) (moments : Moments) (o : Output) → RunGives main tree world (given course moments old) o → Within old new o
-  within_run course main tree world moments o p =
-      of_run (Within old new) (λ bytes exit. same) main tree world (given course moments old) o
-      (λ t w. before_run t w (run_over t w ((given course moments old).events w)).calls) p
+-- before a run no driver was called: that is within it
+before_run : (old new : List DriverState) → AreUncalled old new → (tree : Tree) (world : World) (calls : List RunnerCall) → HaveBegunWithin old new (roster_after_run tree world old calls)
+before_run old new same tree world calls place =
+    let risen = (run_same tree world old calls).totals place in
+    let starts : (driver_at new place).totals.starts ≡ (driver_at old place).totals.starts = ap (λ (t : Totals). t.starts) (same place) in
+    let runnings : (driver_at new place).totals.runnings ≡ (driver_at old place).totals.runnings = ap (λ (t : Totals). t.runnings) (same place) in
+    record {
+      starts = λ few. let more = risen.starts few in omega (arith, starts, more.0);
+      runnings = λ few. let more = risen.runnings few in omega (arith, runnings, more.0);
+    }
 
-  within_mock : (main : Option (List ℕ)) (tree world rules : List ℕ) (moments : Moments) (o : Output) → MockGives main tree world rules (given course.Script moments old) o → Within old new o
-  within_mock main tree world rules moments o p =
-      of_mock (Within old new) (λ bytes exit. same) main tree world rules (given course.Script moments old) o
-      (λ t w. before_run t w (run_over t w w.events).calls) p
+-- ---- What was begun
 
-  within_expects : (main : Option (List ℕ)) (tree world expect : List ℕ) (moments : Moments) (o : Output) → ExpectGives main tree world expect moments old o → Within old new o
-  within_expects main tree world expect moments o p =
-      of_expects (Within old new) (λ bytes exit. same) main tree world expect moments old o
-      (λ of expected. before_run of.tree of.world (run_of_script of.tree of.world).calls) p
+left_within : (calls : Calls) (old new : List DriverState) → DriversLeft calls old new → DriversWithin calls old new
+left_within NoCalls old new p = p
+left_within (OfRun tree world calls) old new p = as_often old new (roster_after_run tree world old calls) p
+left_within (OfPlan after) old new p = as_often old new after p
 
-  not_planned : (world : World) (limits : Limits) → IsPlanCut world limits old new
-  not_planned world limits = record { trials = []; begins = inl refl; within = uncalled_within old new same }
+cut_off_within : (calls : Calls) (a b : Side) → DriversCutOff calls a b → DriversWithin calls a.drivers b.drivers
+cut_off_within NoCalls a b p = p
+cut_off_within (OfRun tree world calls) a b p = cut_off_has_begun_within tree world calls a.drivers b.drivers p
+cut_off_within (OfPlan after) a b p = as_often a.drivers b.drivers after p
+
+ran_out_within : (calls : Calls) (a b : Side) → DriversRanOut calls a b → DriversWithin calls a.drivers b.drivers
+ran_out_within NoCalls a b p = p
+ran_out_within (OfRun tree world calls) a b (inl p) = cut_off_has_begun_within tree world calls a.drivers b.drivers p
+ran_out_within (OfRun tree world calls) a b (inr p) = before_run a.drivers b.drivers p.1 tree world calls
+ran_out_within (OfPlan after) a b (inl p) = as_often a.drivers b.drivers after p
+ran_out_within (OfPlan after) a b (inr p) = p.1
+
+-- no driver was called, and nothing was written
+module _ (a b : Side) (same : AreUncalled a.drivers b.drivers) (unwritten : b.written ≡ a.written) where
+  no_calls : (bytes : List ℕ) (exit : Exit) → Unwritten a b (line_of bytes exit)
+  no_calls bytes exit = same
+
+  unbegun_run : (course : Course) (main : Option (List ℕ)) (tree world : List ℕ) (moments : Moments) (o : Output) → RunGives main tree world (given course moments a.drivers) o → Unwritten a b o
+  unbegun_run course main tree world moments o p =
+      of_run (Unwritten a b) no_calls main tree world (given course moments a.drivers) o (λ t w. inr (unwritten, same)) p
+
+  unbegun_mock : (main : Option (List ℕ)) (tree world rules : List ℕ) (moments : Moments) (o : Output) → MockGives main tree world rules (given course.Script moments a.drivers) o → Unwritten a b o
+  unbegun_mock main tree world rules moments o p =
+      of_mock (Unwritten a b) no_calls main tree world rules (given course.Script moments a.drivers) o (λ t w. inr (unwritten, same)) p
+
+  unbegun_expects : (main : Option (List ℕ)) (tree world expect : List ℕ) (moments : Moments) (o : Output) → ExpectGives main tree world expect moments a.drivers o → Unwritten a b o
+  unbegun_expects main tree world expect moments o p =
+      of_expects (Unwritten a b) no_calls main tree world expect moments a.drivers o (λ of expected. inr (unwritten, same)) p
+
+  not_planned : (world : World) (limits : Limits) → IsPlanCut world limits a.drivers b.drivers
+  not_planned world limits = record { trials = []; begins = inl refl; within = uncalled_within a.drivers b.drivers same }
 
 if_short : (long : Bool) (P Q : Type 0) → long ≡ false → MatchBool long P Q → Q
 if_short true P Q e p = cc
 if_short false P Q e p = p
 
 module _ (cuts : CutLaw) (worlds : WorldLaw) where
-  within_plan : (world : World) (limits : Limits) (old new : List DriverState) (o : Output) → IsPlanCut world limits old new → IsPlanned world limits old o → Within old new o
-  within_plan world limits old new o cut p = subst (Within old new) (sym p.is) (cuts world limits old new p.after p.planned p.valid cut p.run)
+  unwritten_plan : (world : World) (limits : Limits) (a b : Side) (o : Output) → b.written ≡ a.written → IsPlanCut world limits a.drivers b.drivers → IsPlanned world limits a.drivers o → Unwritten a b o
+  unwritten_plan world limits a b o unwritten cut p = subst (Unwritten a b) (sym p.is) (inr (unwritten, cuts world limits a.drivers b.drivers p.after p.planned p.valid cut p.run))
 
-  within_file : (limits : Limits) (file : List ℕ) (old new : List DriverState) (o : Output) → PlanGives limits file old o → FileBegun limits file old new → Within old new o
-  within_file limits file old new o p b =
-      let read = if_short (is_too_long file) _ _ (short_is file b.short) p in
-      let plans : ReadPlans (Ok b.world) limits old o = subst (λ (r : Result World WorldFault). ReadPlans r limits old o) (worlds file read.0 (Ok b.world) read.1 b.described) read.2 in
-      within_plan b.world limits old new o b.begun.1 (subst (λ (r : Option Output). PlannedOr r b.world limits old o) b.begun.0 plans)
+  unwritten_file : (limits : Limits) (file : List ℕ) (a b : Side) (o : Output) → b.written ≡ a.written → PlanGives limits file a.drivers o → FileBegun limits file a.drivers b.drivers → Unwritten a b o
+  unwritten_file limits file a b o unwritten p begun =
+      let read = if_short (is_too_long file) _ _ (short_is file begun.short) p in
+      let plans : ReadPlans (Ok begun.world) limits a.drivers o = subst (λ (r : Result World WorldFault). ReadPlans r limits a.drivers o) (worlds file read.0 (Ok begun.world) read.1 begun.described) read.2 in
+      unwritten_plan begun.world limits a b o unwritten begun.begun.1 (subst (λ (r : Option Output). PlannedOr r begun.world limits a.drivers o) begun.begun.0 plans)
 
   -- the world that a text describes is one
   made_once : (g : Grounded) (a b : Result World GroundFault) → MakesWorld g a → MakesWorld g b → a ≡ b
   made_once g a b p q = p.is ∙ ap (world_from g.origins) (worlds g.text p.read q.read p.reads q.reads) ∙ sym q.is
 
-  within_ground : (limits : Limits) (file : List ℕ) (old new : List DriverState) (o : Output) → GroundPlanGives limits file old o → GroundBegun limits file old new → Within old new o
-  within_ground limits file old new o p b =
-      let read = if_short (is_too_long file) _ _ (short_is file b.short) p in
-      let made : GroundedPlans (Ok b.text) limits old o = subst (λ (r : Result Grounded GroundFault). GroundedPlans r limits old o) b.grounded read in
-      let plans : SaidPlans (Ok b.world) limits old o = subst (λ (r : Result World GroundFault). SaidPlans r limits old o) (made_once b.text made.0 (Ok b.world) made.1 b.described) made.2 in
-      within_plan b.world limits old new o b.begun.1 (subst (λ (r : Option Output). PlannedOr r b.world limits old o) b.begun.0 plans)
+  unwritten_ground : (limits : Limits) (file : List ℕ) (a b : Side) (o : Output) → b.written ≡ a.written → GroundPlanGives limits file a.drivers o → GroundBegun limits file a.drivers b.drivers → Unwritten a b o
+  unwritten_ground limits file a b o unwritten p begun =
+      let read = if_short (is_too_long file) _ _ (short_is file begun.short) p in
+      let made : GroundedPlans (Ok begun.text) limits a.drivers o = subst (λ (r : Result Grounded GroundFault). GroundedPlans r limits a.drivers o) begun.grounded read in
+      let plans : SaidPlans (Ok begun.world) limits a.drivers o = subst (λ (r : Result World GroundFault). SaidPlans r limits a.drivers o) (made_once begun.text made.0 (Ok begun.world) made.1 begun.described) made.2 in
+      unwritten_plan begun.world limits a b o unwritten begun.begun.1 (subst (λ (r : Option Output). PlannedOr r begun.world limits a.drivers o) begun.begun.0 plans)
 
-  -- no driver was called: that is within each output of a command
-  pub uncalled_is_within : (c : Command) (files : Contents) (moments : Moments) (old new : List DriverState) (o : Output) → FilesGive c files moments old o → AreUncalled old new → Within old new o
-  uncalled_is_within (Tick t w main) files moments old new o p same = within_run old new same course.Script main files.tree files.world moments o p
-  uncalled_is_within (Live t w rounds main) files moments old new o p same = within_run old new same (course.Rounds rounds) main files.tree files.world moments o p
-  uncalled_is_within (Load leaves) files moments old new o p same = within_run old new same (course.Load leaves) None (tree_text leaves) (world_text leaves) moments o p
-  uncalled_is_within (Check t main) files moments old new o p same = of_print (Within old new) (λ bytes exit. same) print.Whole main files.tree o p
-  uncalled_is_within (Dead t main) files moments old new o p same = of_print (Within old new) (λ bytes exit. same) print.Dead main files.tree o p
-  uncalled_is_within (Exclusive t ids main) files moments old new o p same = of_exclusive (Within old new) (λ bytes exit. same) ids main files.tree o p
-  uncalled_is_within (Plan w expand ticks period) files moments old new o p same =
-      of_plan (Within old new) (λ bytes exit. same) (limits_of expand ticks period) files.world old o
-      (λ described planned. within_plan described (limits_of expand ticks period) old new o (not_planned old new same described (limits_of expand ticks period)) planned) p
-  uncalled_is_within (Mock t w rules main) files moments old new o p same = within_mock old new same main files.tree files.world files.rules moments o p
-  uncalled_is_within (MockPrint t rules main) files moments old new o p same = of_made (Within old new) (λ bytes exit. same) main files.tree files.rules o p
-  uncalled_is_within (Expect t w x main) files moments old new o p same = within_expects old new same main files.tree files.world files.expect moments o p
-  uncalled_is_within (Ground w) files moments old new o p same = of_ground (Within old new) (λ bytes exit. same) files.world o p
-  uncalled_is_within (GroundPlan w expand ticks period) files moments old new o p same =
-      of_ground_plan (Within old new) (λ bytes exit. same) (limits_of expand ticks period) files.world old o
-      (λ described planned. within_plan described (limits_of expand ticks period) old new o (not_planned old new same described (limits_of expand ticks period)) planned) p
+  -- no driver was called, and nothing was written, of an output of a command
+  pub uncalled_unwritten : (c : Command) (files : Contents) (moments : Moments) (a b : Side) (o : Output) → FilesGive c files moments a.drivers o → AreUncalled a.drivers b.drivers → b.written ≡ a.written → Unwritten a b o
+  uncalled_unwritten (Tick t w main) files moments a b o p same unwritten = unbegun_run a b same unwritten course.Script main files.tree files.world moments o p
+  uncalled_unwritten (Live t w rounds main) files moments a b o p same unwritten = unbegun_run a b same unwritten (course.Rounds rounds) main files.tree files.world moments o p
+  uncalled_unwritten (Load leaves) files moments a b o p same unwritten = unbegun_run a b same unwritten (course.Load leaves) None (tree_text leaves) (world_text leaves) moments o p
+  uncalled_unwritten (Check t main) files moments a b o p same unwritten = of_print (Unwritten a b) (λ bytes exit. same) print.Whole main files.tree o p
+  uncalled_unwritten (Dead t main) files moments a b o p same unwritten = of_print (Unwritten a b) (λ bytes exit. same) print.Dead main files.tree o p
+  uncalled_unwritten (Exclusive t ids main) files moments a b o p same unwritten = of_exclusive (Unwritten a b) (λ bytes exit. same) ids main files.tree o p
+  uncalled_unwritten (Plan w expand ticks period) files moments a b o p same unwritten =
+      of_plan (Unwritten a b) (λ bytes exit. same) (limits_of expand ticks period) files.world a.drivers o
+      (λ described planned. unwritten_plan described (limits_of expand ticks period) a b o unwritten (not_planned a b same unwritten described (limits_of expand ticks period)) planned) p
+  uncalled_unwritten (Mock t w rules main) files moments a b o p same unwritten = unbegun_mock a b same unwritten main files.tree files.world files.rules moments o p
+  uncalled_unwritten (MockPrint t rules main) files moments a b o p same unwritten = of_made (Unwritten a b) (λ bytes exit. same) main files.tree files.rules o p
+  uncalled_unwritten (Expect t w x main) files moments a b o p same unwritten = unbegun_expects a b same unwritten main files.tree files.world files.expect moments o p
+  uncalled_unwritten (Ground w) files moments a b o p same unwritten = of_ground (Unwritten a b) (λ bytes exit. same) files.world o p
+  uncalled_unwritten (GroundPlan w expand ticks period) files moments a b o p same unwritten =
+      of_ground_plan (Unwritten a b) (λ bytes exit. same) (limits_of expand ticks period) files.world a.drivers o
+      (λ described planned. unwritten_plan described (limits_of expand ticks period) a b o unwritten (not_planned a b same unwritten described (limits_of expand ticks period)) planned) p
 
-  -- .. and so is what a command may have begun before its output is known
-  begun_is_within : (c : Command) (files : Contents) (moments : Moments) (old new : List DriverState) (o : Output) → FilesGive c files moments old o → FilesBegin c files old new → Within old new o
-  begun_is_within (Tick t w main) files moments old new o p same = uncalled_is_within (Tick t w main) files moments old new o p same
-  begun_is_within (Live t w rounds main) files moments old new o p same = uncalled_is_within (Live t w rounds main) files moments old new o p same
-  begun_is_within (Load leaves) files moments old new o p same = uncalled_is_within (Load leaves) files moments old new o p same
-  begun_is_within (Check t main) files moments old new o p same = uncalled_is_within (Check t main) files moments old new o p same
-  begun_is_within (Dead t main) files moments old new o p same = uncalled_is_within (Dead t main) files moments old new o p same
-  begun_is_within (Exclusive t ids main) files moments old new o p same = uncalled_is_within (Exclusive t ids main) files moments old new o p same
-  begun_is_within (Plan w expand ticks period) files moments old new o p (inl same) = uncalled_is_within (Plan w expand ticks period) files moments old new o p same
-  begun_is_within (Plan w expand ticks period) files moments old new o p (inr b) = within_file (limits_of expand ticks period) files.world old new o p b
-  begun_is_within (Mock t w rules main) files moments old new o p same = uncalled_is_within (Mock t w rules main) files moments old new o p same
-  begun_is_within (MockPrint t rules main) files moments old new o p same = uncalled_is_within (MockPrint t rules main) files moments old new o p same
-  begun_is_within (Expect t w x main) files moments old new o p same = uncalled_is_within (Expect t w x main) files moments old new o p same
-  begun_is_within (Ground w) files moments old new o p same = uncalled_is_within (Ground w) files moments old new o p same
-  begun_is_within (GroundPlan w expand ticks period) files moments old new o p (inl same) = uncalled_is_within (GroundPlan w expand ticks period) files moments old new o p same
-  begun_is_within (GroundPlan w expand ticks period) files moments old new o p (inr b) = within_ground (limits_of expand ticks period) files.world old new o p b
+  -- .. and so it is of what a command may have begun before its output is known
+  begun_unwritten : (c : Command) (files : Contents) (moments : Moments) (a b : Side) (o : Output) → FilesGive c files moments a.drivers o → FilesBegin c files a.drivers b.drivers → b.written ≡ a.written → Unwritten a b o
+  begun_unwritten (Tick t w main) files moments a b o p same unwritten = uncalled_unwritten (Tick t w main) files moments a b o p same unwritten
+  begun_unwritten (Live t w rounds main) files moments a b o p same unwritten = uncalled_unwritten (Live t w rounds main) files moments a b o p same unwritten
+  begun_unwritten (Load leaves) files moments a b o p same unwritten = uncalled_unwritten (Load leaves) files moments a b o p same unwritten
+  begun_unwritten (Check t main) files moments a b o p same unwritten = uncalled_unwritten (Check t main) files moments a b o p same unwritten
+  begun_unwritten (Dead t main) files moments a b o p same unwritten = uncalled_unwritten (Dead t main) files moments a b o p same unwritten
+  begun_unwritten (Exclusive t ids main) files moments a b o p same unwritten = uncalled_unwritten (Exclusive t ids main) files moments a b o p same unwritten
+  begun_unwritten (Plan w expand ticks period) files moments a b o p (inl same) unwritten = uncalled_unwritten (Plan w expand ticks period) files moments a b o p same unwritten
+  begun_unwritten (Plan w expand ticks period) files moments a b o p (inr begun) unwritten = unwritten_file (limits_of expand ticks period) files.world a b o unwritten p begun
+  begun_unwritten (Mock t w rules main) files moments a b o p same unwritten = uncalled_unwritten (Mock t w rules main) files moments a b o p same unwritten
+  begun_unwritten (MockPrint t rules main) files moments a b o p same unwritten = uncalled_unwritten (MockPrint t rules main) files moments a b o p same unwritten
+  begun_unwritten (Expect t w x main) files moments a b o p same unwritten = uncalled_unwritten (Expect t w x main) files moments a b o p same unwritten
+  begun_unwritten (Ground w) files moments a b o p same unwritten = uncalled_unwritten (Ground w) files moments a b o p same unwritten
+  begun_unwritten (GroundPlan w expand ticks period) files moments a b o p (inl same) unwritten = uncalled_unwritten (GroundPlan w expand ticks period) files moments a b o p same unwritten
+  begun_unwritten (GroundPlan w expand ticks period) files moments a b o p (inr begun) unwritten = unwritten_ground (limits_of expand ticks period) files.world a b o unwritten p begun
 
   -- memory ran out before an output was known, of which a part was given, which is nothing
   pub ran_out_gave : (c : Command) (files : Contents) (moments : Moments) (o : Output) (result : Exit) (a b : Side) → FilesGive c files moments a.drivers o → RanOut (FilesBegin c files) result a b → Gave o result a b
   ran_out_gave c files moments o result a b p out =
       subst (λ (e : Exit). Gave o e a b) (sym out.exit) (record {
         written = subst (λ (z : Option (List ℕ)). AppendedPrefix a.written z o.bytes) (sym out.written) (AppendedPrefix-nothing a.written o.bytes);
-        drivers = begun_is_within c files moments a.drivers b.drivers o p out.drivers;
+        drivers = begun_unwritten c files moments a b o p out.drivers out.written;
         clock = still_within o.asked a.clock b.clock out.clock;
       })
 
-left_within : (left : Option (List DriverState)) (old new : List DriverState) → DriversLeft left old new → DriversWithin left old new
-left_within None old new p = p
-left_within (Some after) old new p = as_often old new after p
+  -- no driver was called: that is within each output of a command
+  pub uncalled_is_within : (c : Command) (files : Contents) (moments : Moments) (a b : Side) (o : Output) → FilesGive c files moments a.drivers o → AreUncalled a.drivers b.drivers → Within a.drivers b.drivers o
+  uncalled_is_within c files moments a b o p same =
+      ran_out_within o.calls a (record { written = a.written; faults = b.faults; clock = b.clock; drivers = b.drivers }) (uncalled_unwritten c files moments a (record { written = a.written; faults = b.faults; clock = b.clock; drivers = b.drivers }) o p same refl)
 
 -- whatever was given, the run has begun no more than all of it begins
 pub gave_within : (o : Output) (result : Exit) (a b : Side) → Gave o result a b → Within a.drivers b.drivers o
-gave_within o exit.Done a b p = left_within o.drivers a.drivers b.drivers p.2
-gave_within o exit.Words a b p = left_within o.drivers a.drivers b.drivers p.2
-gave_within o exit.Tree a b p = left_within o.drivers a.drivers b.drivers p.2
-gave_within o exit.World a b p = left_within o.drivers a.drivers b.drivers p.2
-gave_within o exit.Fault a b p = left_within o.drivers a.drivers b.drivers p.2
-gave_within o exit.NoPlan a b p = left_within o.drivers a.drivers b.drivers p.2
-gave_within o exit.Read a b p = left_within o.drivers a.drivers b.drivers p.2
-gave_within o exit.Write a b p = p.1.drivers
-gave_within o exit.Memory a b p = p.drivers
-gave_within o exit.Rules a b p = left_within o.drivers a.drivers b.drivers p.2
-gave_within o exit.Request a b p = left_within o.drivers a.drivers b.drivers p.2
-gave_within o exit.NotExclusive a b p = left_within o.drivers a.drivers b.drivers p.2
-gave_within o exit.Expect a b p = left_within o.drivers a.drivers b.drivers p.2
-gave_within o exit.Unmet a b p = left_within o.drivers a.drivers b.drivers p.2
+gave_within o exit.Done a b p = left_within o.calls a.drivers b.drivers p.2
+gave_within o exit.Words a b p = left_within o.calls a.drivers b.drivers p.2
+gave_within o exit.Tree a b p = left_within o.calls a.drivers b.drivers p.2
+gave_within o exit.World a b p = left_within o.calls a.drivers b.drivers p.2
+gave_within o exit.Fault a b p = left_within o.calls a.drivers b.drivers p.2
+gave_within o exit.NoPlan a b p = left_within o.calls a.drivers b.drivers p.2
+gave_within o exit.Read a b p = left_within o.calls a.drivers b.drivers p.2
+gave_within o exit.Write a b p = cut_off_within o.calls a b p.1.drivers
+gave_within o exit.Memory a b p = ran_out_within o.calls a b p.drivers
+gave_within o exit.Rules a b p = left_within o.calls a.drivers b.drivers p.2
+gave_within o exit.Request a b p = left_within o.calls a.drivers b.drivers p.2
+gave_within o exit.NotExclusive a b p = left_within o.calls a.drivers b.drivers p.2
+gave_within o exit.Expect a b p = left_within o.calls a.drivers b.drivers p.2
+gave_within o exit.Unmet a b p = left_within o.calls a.drivers b.drivers p.2
 
 unread_uncalled : (f : File) (old new : List DriverState) → Within old new (unread f) → AreUncalled old new
 unread_uncalled file.Tree old new p = p

@@ -120,13 +120,13 @@ one_mock one main tree world rules g x y p q =
     one_if (is_too_long tree) x y (too_long file.Tree) _ _ p q (λ p1 q1. one_if (is_too_long world) x y (too_long file.World) _ _ p1 q1
     (λ p2 q2. one_if (is_too_long rules) x y (too_long file.Rules) _ _ p2 q2 (λ p3 q3. one_read one main (mocked rules) tree world g x y p3 q3)))
 
-one_joined : OneReading → (lack : Option JoinFault) (of : Setup) (expect : List ℕ) (drivers : List DriverState) (x y : Output) → JoinExpects lack of expect drivers x → JoinExpects lack of expect drivers y → x ≡ y
-one_joined one None of expect drivers x y p q =
-    p.2 ∙ ap (λ (r : Result (List Expected) ExpectFault). expect_output r of drivers) (one.expect of.tree of.world expect p.0 q.0 p.1 q.1) ∙ sym q.2
-one_joined one (Some fault) of expect drivers x y p q = p ∙ sym q
+one_joined : OneReading → (lack : Option JoinFault) (of : Setup) (expect : List ℕ) (x y : Output) → JoinExpects lack of expect x → JoinExpects lack of expect y → x ≡ y
+one_joined one None of expect x y p q =
+    p.2 ∙ ap (λ (r : Result (List Expected) ExpectFault). expect_output r of) (one.expect of.tree of.world expect p.0 q.0 p.1 q.1) ∙ sym q.2
+one_joined one (Some fault) of expect x y p q = p ∙ sym q
 
 one_expecting_world : OneReading → (described : Result World WorldFault) (tree : Tree) (expect : List ℕ) (drivers : List DriverState) (x y : Output) → WorldExpects described tree expect drivers x → WorldExpects described tree expect drivers y → x ≡ y
-one_expecting_world one (Ok world) tree expect drivers x y p q = one_joined one (lack_of tree world drivers) (setup tree world) expect drivers x y p q
+one_expecting_world one (Ok world) tree expect drivers x y p q = one_joined one (lack_of tree world drivers) (setup tree world) expect x y p q
 one_expecting_world one (Err fault) tree expect drivers x y p q = p ∙ sym q
 
 one_expecting_tree : OneReading → (read : Result Tree TreeFault) (world expect : List ℕ) (drivers : List DriverState) (x y : Output) → TreeExpects read world expect drivers x → TreeExpects read world expect drivers y → x ≡ y
@@ -372,13 +372,13 @@ module _ (one : OneReading) (cuts : CutLaw) (c : Command) (result : Exit) (shelf
   each_clause (Some h) x = each_told h x
 
   -- whatever is answered, no more was begun than in the run
-  pub begun_clause : (holds : Option (List ℕ → List ℕ)) → ReadFailed shelf IsUnread result a b ⊎ Answered holds c result a b → EachOutput holds (Some c) a (λ o. DriversWithin o.drivers a.drivers b.drivers)
+  pub begun_clause : (holds : Option (List ℕ → List ℕ)) → ReadFailed shelf IsUnread result a b ⊎ Answered holds c result a b → EachOutput holds (Some c) a (λ o. DriversWithin o.calls a.drivers b.drivers)
   begun_clause None x = tt
   begun_clause (Some h) (inl r) =
       each_always (moments_for (Some c) a.clock)
-      (λ moments o p. uncalled_is_within cuts one.world c (held_by h (files_of c)) moments a.drivers b.drivers o p (unread_called_none r.1 result a b r.3))
+      (λ moments o p. uncalled_is_within cuts one.world c (held_by h (files_of c)) moments a b o p (unread_called_none r.1 result a b r.3))
   begun_clause (Some h) (inr f) =
-      if_more (moments_for (Some c) a.clock) (λ moments. (o : Output) → CommandGives (Some c) h moments a.drivers o → Gave o result a b) (λ moments. (o : Output) → CommandGives (Some c) h moments a.drivers o → DriversWithin o.drivers a.drivers b.drivers)
+      if_more (moments_for (Some c) a.clock) (λ moments. (o : Output) → CommandGives (Some c) h moments a.drivers o → Gave o result a b) (λ moments. (o : Output) → CommandGives (Some c) h moments a.drivers o → DriversWithin o.calls a.drivers b.drivers)
       (λ moments each o p. gave_within o result a b (each o p)) (each_answered h f)
 
 -- the clauses of words that are no command
@@ -394,7 +394,7 @@ module _ (result : Exit) (shelf : Type 0) (IsUnread : File → Type 0) (a b : Si
   none_each None = tt
   none_each (Some h) = λ o e. inl (refused_gave o e)
 
-  pub none_begun : (holds : Option (List ℕ → List ℕ)) → EachOutput holds None a (λ o. DriversWithin o.drivers a.drivers b.drivers)
+  pub none_begun : (holds : Option (List ℕ → List ℕ)) → EachOutput holds None a (λ o. DriversWithin o.calls a.drivers b.drivers)
   none_begun None = tt
   none_begun (Some h) = λ o e. gave_within o result a b (refused_gave o e)
 
@@ -466,16 +466,16 @@ exit_of_count None failed = by (nat_eq failed 0)
     by true = tt
     by false = tt
 
-exit_of_expected : (read : Result (List Expected) ExpectFault) (of : Setup) (drivers : List DriverState) → IsOfFiles (expect_output read of drivers).exit
-exit_of_expected (Ok expected) of drivers = exit_of_count (run of.tree of.world).fault (failed of (run of.tree of.world).blocks expected)
-exit_of_expected (Err fault) of drivers = tt
+exit_of_expected : (read : Result (List Expected) ExpectFault) (of : Setup) → IsOfFiles (expect_output read of).exit
+exit_of_expected (Ok expected) of = exit_of_count (run of.tree of.world).fault (failed of (run of.tree of.world).blocks expected)
+exit_of_expected (Err fault) of = tt
 
-exit_of_joined : (lack : Option JoinFault) (of : Setup) (expect : List ℕ) (drivers : List DriverState) (o : Output) → JoinExpects lack of expect drivers o → IsOfFiles o.exit
-exit_of_joined None of expect drivers o p = same_exit o (expect_output p.0 of drivers) p.2 (exit_of_expected p.0 of drivers)
-exit_of_joined (Some fault) of expect drivers o p = same_exit o (join_refused fault) p tt
+exit_of_joined : (lack : Option JoinFault) (of : Setup) (expect : List ℕ) (o : Output) → JoinExpects lack of expect o → IsOfFiles o.exit
+exit_of_joined None of expect o p = same_exit o (expect_output p.0 of) p.2 (exit_of_expected p.0 of)
+exit_of_joined (Some fault) of expect o p = same_exit o (join_refused fault) p tt
 
 exit_of_expecting_world : (described : Result World WorldFault) (tree : Tree) (expect : List ℕ) (drivers : List DriverState) (o : Output) → WorldExpects described tree expect drivers o → IsOfFiles o.exit
-exit_of_expecting_world (Ok world) tree expect drivers o p = exit_of_joined (lack_of tree world drivers) (setup tree world) expect drivers o p
+exit_of_expecting_world (Ok world) tree expect drivers o p = exit_of_joined (lack_of tree world drivers) (setup tree world) expect o p
 exit_of_expecting_world (Err fault) tree expect drivers o p = same_exit o (world_refused fault) p tt
 
 exit_of_expecting_tree : (read : Result Tree TreeFault) (world expect : List ℕ) (drivers : List DriverState) (o : Output) → TreeExpects read world expect drivers o → IsOfFiles o.exit
@@ -573,7 +573,7 @@ exit_of_files (Mock t w rules main) files moments drivers o p = exit_of_mock mai
 exit_of_files (MockPrint t rules main) files moments drivers o p = exit_of_print_made main files.tree files.rules o p
 
 -- no tree was run where a file was not read
-unread_left : (f : File) (a b : Side) → DriversLeft (unread f).drivers a.drivers b.drivers → AreUncalled a.drivers b.drivers
+unread_left : (f : File) (a b : Side) → DriversLeft (unread f).calls a.drivers b.drivers → AreUncalled a.drivers b.drivers
 unread_left file.Tree a b p = p
 unread_left file.World a b p = p
 unread_left file.Rules a b p = p
@@ -779,7 +779,7 @@ module _ (holds : Option (List ℕ → List ℕ)) (result : Exit) (shelf : Type 
   complete_of command each =
       each_more holds command a (λ o. Gave o result a b ⊎ ReadFailed shelf IsUnread result a b) (λ o. (shelf → ⊥) → (Rose a.faults b.faults → ⊥) → (result ≡ exit.Memory) ⊎ IsWhole o result a b) complete_told each
 
-  pub begun_of : OneReading → CutLaw → (command : Option Command) → CommandAnswered command holds shelf IsUnread result a b → EachOutput holds command a (λ o. DriversWithin o.drivers a.drivers b.drivers)
+  pub begun_of : OneReading → CutLaw → (command : Option Command) → CommandAnswered command holds shelf IsUnread result a b → EachOutput holds command a (λ o. DriversWithin o.calls a.drivers b.drivers)
   begun_of one cuts None gave = none_begun result shelf IsUnread a b gave holds
   begun_of one cuts (Some c) answered = begun_clause one cuts c result shelf IsUnread a b holds answered
 

@@ -19,14 +19,10 @@ module _ {Shelf : Type 0} (read_gives : Reading Shelf) (leaves : ℕ) (rose : Ty
 
   -- no read can have given a fault, and no bytes had to be told
   over_any : (end : ReadsEnd) → AreRead read_gives told [] end x y → AnsweredAfter load told rose end result a b → WordsAnswered read_gives (Some holds) load rose x y result a b
-  over_any AllRead reads answered = record {
-    end = AllRead;
+  over_any (AllRead files) reads answered = record {
+    end = AllRead files;
     reads = reads;
-    answered = record {
-      files = answered.files;
-      told = record { told = record { tree = tt; world = tt; rules = tt; expect = tt }; short = answered.told.short };
-      answers = answered.answers;
-    };
+    answered = (record { told = record { tree = tt; world = tt; rules = tt; expect = tt }; short = answered.0.short }, answered.1);
   }
   over_any (StoppedAt which gave) reads answered = absurd reads
 
@@ -50,5 +46,5 @@ module _ {Shelf : Type 0} (read_gives : Reading Shelf) (leaves : ℕ) (rose : Ty
         each_more (Some holds) load a (λ o. Gave o result a b ⊎ ReadFailed rose IsUnread result a b) (λ o. Gave o result a b) not_failed
         (each_of (Some holds) result rose IsUnread a b one cuts load command_answered)
 
-    pub load_begun : OneReading → CutLaw → EachOutput (Some holds) load a (λ o. DriversWithin o.drivers a.drivers b.drivers)
+    pub load_begun : OneReading → CutLaw → EachOutput (Some holds) load a (λ o. DriversWithin o.calls a.drivers b.drivers)
     load_begun one cuts = begun_of (Some holds) result rose IsUnread a b one cuts load command_answered

@@ -44,8 +44,9 @@ pub fn bt<S: Shelf, K: Sink, C: Clock>(
         (side (K.written out.new) (K.faults out.new) (C.moments clock.new) (map (λ b. state b) roster.new.items)) }
 
     // The output was given, whole or a prefix of it, or a read failed. After a prefix, at Write and
-    // Memory, no driver was asked to start or to go on more often than in the run, where no tree was run
-    // none was called, and a run by the clock asked it at most once a round.
+    // Memory, the drivers had the first calls of the run and then calls alone that halt, where no tree was
+    // run none was called, and a run by the clock asked it at most once a round. A plan is made before its
+    // first line is written: after a prefix of its lines its drivers are those after all of it.
     ensures each { let old = side (K.written out.old) (K.faults out.old) (C.moments clock.old) (map (λ b. state b) roster.old.items) in
         let new = side (K.written out.new) (K.faults out.new) (C.moments clock.new) (map (λ b. state b) roster.new.items) in
         EachOutput (S.holds shelf.old) (command_of words.now) old (λ o. Gave o result old new
@@ -56,7 +57,7 @@ pub fn bt<S: Shelf, K: Sink, C: Clock>(
     // in the run of the definition, and where no tree was run, none was called.
     ensures begun { let old = side (K.written out.old) (K.faults out.old) (C.moments clock.old) (map (λ b. state b) roster.old.items) in
         EachOutput (S.holds shelf.old) (command_of words.now) old (λ o.
-        DriversWithin o.drivers old.drivers (map (λ b. state b) roster.new.items)) }
+        DriversWithin o.calls old.drivers (map (λ b. state b) roster.new.items)) }
 
     // Whatever is answered, the files that the words name were read in their order, each once, and no
     // other, up to the first whose read gave a fault. The line of this fault was given, or memory ran

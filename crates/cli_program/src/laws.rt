@@ -69,7 +69,7 @@ pub fn loads_are_answered_over_every_shelf<S: Shelf>(before: &S, after: &S)
         → EachOutput (Some holds) (Some (Load leaves)) old (λ o. Gave o result old new) }
     ensures begun { (leaves : ℕ) (holds : List ℕ → List ℕ) (result : Given) (old new : Side) →
         ShelfAnswered S.read_gives (S.holds before.now) S.faults before.now after.now (Some (Load leaves)) result old new
-        → EachOutput (Some holds) (Some (Load leaves)) old (λ o. DriversWithin o.drivers old.drivers new.drivers) }
+        → EachOutput (Some holds) (Some (Load leaves)) old (λ o. DriversWithin o.calls old.drivers new.drivers) }
 {
     one_element();
     element_or_fault();

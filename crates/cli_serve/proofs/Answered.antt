@@ -112,13 +112,12 @@ module _ {Shelf : Type 0} (read_gives : Reading Shelf) (holds : Option (List ℕ
   Answer = IsAnswered read_gives holds served AreHeard rose shelf_old shelf_new result old new
 
   -- all files were read
-  pub read_answered : (files : Files) → AreRead read_gives holds (in_order (files_of served)) AllRead shelf_old shelf_new → AreWithin holds (files_of served) (contents_of files)
+  pub read_answered : (files : Files) → AreRead read_gives holds (in_order (files_of served)) (AllRead (contents_of files)) shelf_old shelf_new → AreWithin holds (files_of served) (contents_of files)
       → is_some files.world ≡ is_some served.world → FilesAnswered served.main files AreHeard result old new → Answer
-  read_answered files reads within named answered = record { end = AllRead; reads = reads; answered = by answered }
+  read_answered files reads within named answered = record { end = AllRead (contents_of files); reads = reads; answered = by answered }
     where
-      by : FilesAnswered served.main files AreHeard result old new → EndsAfter holds served AreHeard rose AllRead result old new
+      by : FilesAnswered served.main files AreHeard result old new → EndsAfter holds served AreHeard rose (AllRead (contents_of files)) result old new
       by (inl said) = inl (record {
-        files = contents_of files;
         within = within;
         heard = said.heard;
         is_heard = said.is_heard;

@@ -24,9 +24,8 @@ WasGiven o result old new = Printed o result old.written old.faults new.written 
 abbrev pub RanOut : Exit → Out → Out → Type 0
 RanOut result old new = (result ≡ exit.Memory) × (new.written ≡ old.written)
 
--- This is said over the bytes of the files, where they are told, to what is heard of the input; and it was given.
-pub record WasSaid (holds : Option (List ℕ → List ℕ)) (served : Served) (AreHeard : Exit → Heard → Type 0) (result : Exit) (old new : Out) : Type 0 where
-  pub files : Contents
+-- This is said over these bytes of the files, which are those that are told, to what is heard of the input; and it was given.
+pub record WasSaid (files : Contents) (holds : Option (List ℕ → List ℕ)) (served : Served) (AreHeard : Exit → Heard → Type 0) (result : Exit) (old new : Out) : Type 0 where
   pub within : AreWithin holds (files_of served) files
   pub heard : Heard
   pub is_heard : AreHeard result heard
@@ -48,7 +47,7 @@ FilesAnswered main files AreHeard result old new = FilesWereSaid main files AreH
 
 -- what is served is answered after reads that end so
 abbrev pub EndsAfter : Option (List ℕ → List ℕ) → Served → (Exit → Heard → Type 0) → Type 0 → ReadsEnd → Exit → Out → Out → Type 0
-EndsAfter holds served AreHeard shelf_rose AllRead result old new = WasSaid holds served AreHeard result old new ⊎ RanOut result old new
+EndsAfter holds served AreHeard shelf_rose (AllRead files) result old new = WasSaid files holds served AreHeard result old new ⊎ RanOut result old new
 EndsAfter holds served AreHeard shelf_rose (StoppedAt which fault.Failed) result old new = shelf_rose × WasGiven (unread which) result old new
 EndsAfter holds served AreHeard shelf_rose (StoppedAt which fault.TooLong) result old new = WasGiven (too_long which) result old new
 EndsAfter holds served AreHeard shelf_rose (StoppedAt which fault.NoMemory) result old new = RanOut result old new

@@ -38,30 +38,22 @@ pub record AreWithin (holds : Option (List ℕ → List ℕ)) (named : Named) (f
   pub told : AreTold holds named files
   pub short : AreShort files
 
--- what is so of the output of some bytes of files, of which this is so, and of some moments, which are those that the clock
--- tells; and of what may have begun before
-pub record OfFiles (AreFound : Contents → Type 0) (Gives : Giving) (Begins : Beginning) (found : Side) (P : (Output → Type 0) → Begun → Type 0) : Type 0 where
-  pub files : Contents
-  pub told : AreFound files
-  pub answers : AtMoments found.clock (λ moments. P (Gives files moments found.drivers) (Begins files))
-
--- the output of files, of which this is so, was given
-abbrev pub GaveFiles : (Contents → Type 0) → Giving → Beginning → Exit → Side → Side → Type 0
-GaveFiles AreFound Gives Begins result old new =
-    OfFiles AreFound Gives Begins old (λ IsOutput HaveBegun. Answers IsOutput HaveBegun result old new)
+-- the output of these bytes of files was given, at some moments, which are those that the clock tells
+abbrev pub GaveOf : Contents → Giving → Beginning → Exit → Side → Side → Type 0
+GaveOf files Gives Begins result old new = AtMoments old.clock (λ moments. Answers (Gives files moments old.drivers) (Begins files) result old new)
 
 -- The shelf's count of failures rose: the read of a file failed, and the line of this file was given.
 abbrev pub ReadFailed : Type 0 → (File → Type 0) → Exit → Side → Side → Type 0
 ReadFailed shelf_rose IsUnread result old new =
     shelf_rose × (file : File) × IsUnread file × Gave (unread file) result old new
 
--- What words were answered after reads that end so: the output of their files, of which none is too long, was given; or the
--- line of the fault that the last read gave, where the shelf's count of failures rose at Failed; out of memory nothing was
+-- What words were answered after reads that end so: the output of the bytes that were read, of which none is too long, was
+-- given; or the line of the fault that the last read gave, where the shelf's count of failures rose at Failed; out of memory nothing was
 -- done. Words that are no command have their refusal.
 abbrev pub AnsweredAfter : Option Command → Option (List ℕ → List ℕ) → Type 0 → ReadsEnd → Exit → Side → Side → Type 0
 AnsweredAfter None holds shelf_rose end result old new = Gave words_refused result old new
-AnsweredAfter (Some command) holds shelf_rose AllRead result old new =
-    GaveFiles (AreWithin holds (files_of command)) (FilesGive command) (FilesBegin command) result old new
+AnsweredAfter (Some command) holds shelf_rose (AllRead files) result old new =
+    AreWithin holds (files_of command) files × GaveOf files (FilesGive command) (FilesBegin command) result old new
 AnsweredAfter (Some command) holds shelf_rose (StoppedAt which fault.Failed) result old new = shelf_rose × Gave (unread which) result old new
 AnsweredAfter (Some command) holds shelf_rose (StoppedAt which fault.TooLong) result old new = Gave (too_long which) result old new
 AnsweredAfter (Some command) holds shelf_rose (StoppedAt which fault.NoMemory) result old new = RanOut AreUncalled result old new

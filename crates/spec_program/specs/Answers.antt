@@ -3,12 +3,13 @@ use Rattle.std.specs.Prelude.{ℕ, ◌≡◌, List, [], Option, Some, None, ◌�
 use Rattle.spec_program.specs.declared.exit.Exit.{Exit}
 use Rattle.spec_run.specs.Drivers.{DriverState}
 use Rattle.spec_run.specs.Run.{opening}
+use Rattle.spec_run.specs.Served.{roster_after_run}
 use Rattle.spec_outside.specs.Moments.{Moments}
 use Rattle.spec_output.specs.Rounds.{AreBegun, CanBegin, moments_after}
-use Rattle.spec_program.specs.Output.{AreUncalled, Asked, Begun, Never, Times, UpToFault, Output}
+use Rattle.spec_program.specs.Output.{AreUncalled, Asked, Begun, Calls, Never, NoCalls, OfPlan, OfRun, Output, Times, UpToFault}
 use Rattle.spec_outside.specs.Appending.{Appended, AppendedPrefix}
 use Rattle.spec_outside.specs.Counts.{Rose}
-use Rattle.spec_output.specs.Cuts.{HaveBegunWithin}
+use Rattle.spec_output.specs.Cuts.{HaveBegunWithin, IsCutOff}
 use Rattle.spec_program.specs.declared.exit.Exit.TheVariants as exit
 
 -- what a command finds and what it leaves: the bytes of the sink, where it tells them, with its count of failures; the
@@ -22,10 +23,27 @@ pub record Side : Type 0 where
 abbrev pub side : Option (List ℕ) → ℕ → Option Moments → List DriverState → Side
 side written faults clock drivers = record { written = written; faults = faults; clock = clock; drivers = drivers }
 
--- the drivers are those after the run; where no tree was run, none was called
-abbrev pub DriversLeft : Option (List DriverState) → List DriverState → List DriverState → Type 0
-DriversLeft (Some after) old new = new ≡ after
-DriversLeft None old new = AreUncalled old new
+-- the drivers had all of these calls
+abbrev pub DriversLeft : Calls → List DriverState → List DriverState → Type 0
+DriversLeft NoCalls old new = AreUncalled old new
+DriversLeft (OfRun tree world calls) old new = new ≡ roster_after_run tree world old calls
+DriversLeft (OfPlan after) old new = new ≡ after
+
+-- A write failed, and so the drivers had the first of these calls, and then calls alone that halt. A plan is made before its
+-- first line is written: they had all of its calls.
+abbrev pub DriversCutOff : Calls → Side → Side → Type 0
+DriversCutOff NoCalls old new = AreUncalled old.drivers new.drivers
+DriversCutOff (OfRun tree world calls) old new = IsCutOff tree world calls old.drivers new.drivers
+DriversCutOff (OfPlan after) old new = new.drivers ≡ after
+
+-- Memory ran out: so it was too; or nothing was written yet, and no call of a run was made, or no more was begun than by
+-- the modelled runs of a plan.
+abbrev pub DriversRanOut : Calls → Side → Side → Type 0
+DriversRanOut NoCalls old new = AreUncalled old.drivers new.drivers
+DriversRanOut (OfRun tree world calls) old new =
+    IsCutOff tree world calls old.drivers new.drivers ⊎ ((new.written ≡ old.written) × AreUncalled old.drivers new.drivers)
+DriversRanOut (OfPlan after) old new =
+    (new.drivers ≡ after) ⊎ ((new.written ≡ old.written) × HaveBegunWithin old.drivers new.drivers after)
 
 -- the clock was asked so often
 abbrev pub ClockLeft : Asked → Option Moments → Option Moments → Type 0
@@ -35,10 +53,11 @@ ClockLeft (UpToFault tree world moments) None new = Unit {0}
 ClockLeft (UpToFault tree world moments) (Some old) new =
     (begun : ℕ) × AreBegun tree world 0 moments (opening tree world) begun × (new ≡ Some (moments_after begun old))
 
--- no driver was asked to start and to go on more often than in the run; where no tree was run, none was called
-abbrev pub DriversWithin : Option (List DriverState) → List DriverState → List DriverState → Type 0
-DriversWithin (Some after) old new = HaveBegunWithin old new after
-DriversWithin None old new = AreUncalled old new
+-- no driver was asked to start and to go on more often than by these calls
+abbrev pub DriversWithin : Calls → List DriverState → List DriverState → Type 0
+DriversWithin NoCalls old new = AreUncalled old new
+DriversWithin (OfRun tree world calls) old new = HaveBegunWithin old new (roster_after_run tree world old calls)
+DriversWithin (OfPlan after) old new = HaveBegunWithin old new after
 
 -- the clock was asked no more often than in the run: once for each round, and for none after the one that faults
 abbrev pub ClockWithin : Asked → Option Moments → Option Moments → Type 0
@@ -52,18 +71,19 @@ ClockWithin (UpToFault tree world moments) (Some old) new =
 abbrev pub IsWhole : Output → Exit → Side → Side → Type 0
 IsWhole o result old new =
     (o.exit ≡ result) × Appended old.written new.written o.bytes
-    × DriversLeft o.drivers old.drivers new.drivers × ClockLeft o.asked old.clock new.clock
+    × DriversLeft o.calls old.drivers new.drivers × ClockLeft o.asked old.clock new.clock
 
--- a part of the output was given: a prefix of its bytes was written, and its run has begun no more than all of it begins
-pub record IsPart (o : Output) (old new : Side) : Type 0 where
+-- a part of the output was given: a prefix of its bytes was written, this is so of the calls of the drivers, and the clock
+-- was asked no more often than in its run
+pub record IsPart (HadCalls : Calls → Side → Side → Type 0) (o : Output) (old new : Side) : Type 0 where
   pub written : AppendedPrefix old.written new.written o.bytes
-  pub drivers : DriversWithin o.drivers old.drivers new.drivers
+  pub drivers : HadCalls o.calls old new
   pub clock : ClockWithin o.asked old.clock new.clock
 
 -- the output was given: whole; or a part of it, with Write where the sink's count of failures rose, or with Memory
 abbrev pub Gave : Output → Exit → Side → Side → Type 0
-Gave o exit.Write old new = Rose old.faults new.faults × IsPart o old new
-Gave o exit.Memory old new = IsPart o old new
+Gave o exit.Write old new = Rose old.faults new.faults × IsPart DriversCutOff o old new
+Gave o exit.Memory old new = IsPart DriversRanOut o old new
 Gave o other old new = IsWhole o other old new
 
 -- memory ran out before an output was known: nothing was written, the clock was not asked, and no more was begun than this

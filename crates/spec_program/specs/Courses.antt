@@ -2,7 +2,6 @@
 use Rattle.std.specs.Prelude.{ℕ, List, length, Option, Some, None}
 use Rattle.spec_run.specs.declared.join_fault.JoinFault.{JoinFault}
 use Rattle.spec_output.specs.Summaries.{load_line}
-use Rattle.spec_run.specs.Served.{roster_after_run}
 use Rattle.spec_program.specs.declared.course.Course.{Course}
 use Rattle.spec_program.specs.declared.exit.Exit.{Exit}
 use Rattle.spec_run.specs.declared.fault.RunFault.{RunFault}
@@ -15,7 +14,7 @@ use Rattle.spec_run.specs.Run.{Trace, run_over}
 use Rattle.spec_outside.specs.Moments.{Moments}
 use Rattle.spec_output.specs.Rounds.{live_events, taken}
 use Rattle.spec_output.specs.Texts.{text_of}
-use Rattle.spec_program.specs.Output.{Asked, Never, Times, UpToFault, Output}
+use Rattle.spec_program.specs.Output.{Asked, Never, OfRun, Output, Times, UpToFault}
 use Rattle.spec_program.specs.Refused.{join_refused}
 use Rattle.spec_program.specs.declared.course.Course.TheVariants as course
 use Rattle.spec_program.specs.declared.exit.Exit.TheVariants as exit
@@ -55,12 +54,12 @@ pub record Given : Type 0 where
 abbrev pub given : Course → Moments → List DriverState → Given
 given course moments drivers = record { events = events_by course moments; bytes = bytes_by course; asked = asked_by course moments; drivers = drivers }
 
--- what is written of a run's trace; the drivers were prepared and then made its calls
+-- what is written of a run's trace, whose calls the drivers have
 abbrev pub traced : Tree → World → Given → Trace → Output
 traced tree world g trace = record {
   bytes = g.bytes tree world trace;
   exit = run_exit trace.fault;
-  drivers = Some (roster_after_run tree world g.drivers trace.calls);
+  calls = OfRun tree world trace.calls;
   asked = g.asked tree world trace.fault;
 }
 

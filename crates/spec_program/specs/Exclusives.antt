@@ -10,7 +10,7 @@ use Rattle.spec_program.specs.declared.exit.Exit.TheVariants as exit
 use Rattle.spec_program.specs.declared.file.File.TheVariants as file
 use Rattle.spec_program.specs.declared.tree_fault.TreeFault.{TreeFault}
 use Rattle.spec_program.specs.Gives.{Giving, OrTooLong}
-use Rattle.spec_program.specs.Output.{Never as Unasked, Output, line_of}
+use Rattle.spec_program.specs.Output.{Never as Unasked, NoCalls, Output, line_of}
 use Rattle.spec_program.specs.Refused.{no_leaf, too_long, tree_refused}
 use Rattle.spec_program.specs.TreeFiles.{TreeReads}
 
@@ -38,7 +38,7 @@ no_pairs = line_of (codes "exclusive\n") exit.Done
 
 -- these are the first of so many pairs
 abbrev pub some_pairs : List Pair → ℕ → Output
-some_pairs first count = record { bytes = concat (map pair_line first) ++ pairs_line count; exit = exit.NotExclusive; drivers = None; asked = Unasked }
+some_pairs first count = record { bytes = concat (map pair_line first) ++ pairs_line count; exit = exit.NotExclusive; calls = NoCalls; asked = Unasked }
 
 -- what is printed of these pairs: where there is none, that the leaves are exclusive; else the lines of the first ones, and
 -- how many there are

@@ -5,7 +5,7 @@ use Rattle.spec_run.specs.declared.join_fault.JoinFault.{JoinFault}
 use Rattle.spec_run.specs.Drivers.{DriverState}
 use Rattle.spec_run.specs.Joins.{lack_of}
 use Rattle.spec_run.specs.Run.{Trace, run}
-use Rattle.spec_run.specs.Served.{Setup, roster_after_run}
+use Rattle.spec_run.specs.Served.{Setup}
 use Rattle.spec_tree.specs.declared.term.Tree.{Tree}
 use Rattle.spec_world.specs.declared.world.World.{World}
 use Rattle.spec_world_file.specs.declared.world_fault.WorldFault.{WorldFault}
@@ -21,7 +21,7 @@ use Rattle.spec_program.specs.declared.file.File.TheVariants as file
 use Rattle.spec_program.specs.declared.tree_fault.TreeFault.{TreeFault}
 use Rattle.spec_program.specs.Files.{Contents}
 use Rattle.spec_program.specs.Gives.{Giving, OrTooLong}
-use Rattle.spec_program.specs.Output.{Ending, Never, Output}
+use Rattle.spec_program.specs.Output.{Ending, Never, OfRun, Output}
 use Rattle.spec_program.specs.Refused.{expect_refused, join_refused, too_long, tree_refused, world_refused}
 use Rattle.spec_program.specs.TreeFiles.{TreeReads}
 
@@ -32,34 +32,34 @@ expect_exit (Some fault) failed = exit.Fault
 expect_exit None failed = if nat_eq failed 0 then exit.Done else exit.Unmet
 
 -- what is written of a run of which this is expected: the line of each expectation in order, and the last one
-abbrev pub expecting : List Expected → Setup → List DriverState → Trace → Output
-expecting expected of drivers trace = record {
+abbrev pub expecting : List Expected → Setup → Trace → Output
+expecting expected of trace = record {
   bytes = told_of of expected trace;
   exit = expect_exit trace.fault (failed of trace.blocks expected);
-  drivers = Some (roster_after_run of.tree of.world drivers trace.calls);
+  calls = OfRun of.tree of.world trace.calls;
   asked = Never;
 }
 
 -- by what the file of expectations reads as
-abbrev pub expect_output : Result (List Expected) ExpectFault → Setup → List DriverState → Output
-expect_output (Ok expected) of drivers = expecting expected of drivers (run of.tree of.world)
-expect_output (Err fault) of drivers = expect_refused fault
+abbrev pub expect_output : Result (List Expected) ExpectFault → Setup → Output
+expect_output (Ok expected) of = expecting expected of (run of.tree of.world)
+expect_output (Err fault) of = expect_refused fault
 
 -- a tree and a world that fit together, and the bytes of a file of expectations
-abbrev pub FileExpects : Setup → List ℕ → List DriverState → Output → Type 0
-FileExpects of expect drivers output =
-    (read : Result (List Expected) ExpectFault) × ReadsExpected of.tree of.world expect read × (output ≡ expect_output read of drivers)
+abbrev pub FileExpects : Setup → List ℕ → Output → Type 0
+FileExpects of expect output =
+    (read : Result (List Expected) ExpectFault) × ReadsExpected of.tree of.world expect read × (output ≡ expect_output read of)
 
 -- where every leaf has a row and a driver; else the first that lacks one is told
-abbrev pub JoinExpects : Option JoinFault → Setup → List ℕ → List DriverState → Output → Type 0
-JoinExpects None of expect drivers output = FileExpects of expect drivers output
-JoinExpects (Some fault) of expect drivers output = output ≡ join_refused fault
+abbrev pub JoinExpects : Option JoinFault → Setup → List ℕ → Output → Type 0
+JoinExpects None of expect output = FileExpects of expect output
+JoinExpects (Some fault) of expect output = output ≡ join_refused fault
 
 abbrev pub setup : Tree → World → Setup
 setup tree world = record { tree = tree; world = world }
 
 abbrev pub WorldExpects : Result World WorldFault → Tree → List ℕ → List DriverState → Output → Type 0
-WorldExpects (Ok world) tree expect drivers output = JoinExpects (lack_of tree world drivers) (setup tree world) expect drivers output
+WorldExpects (Ok world) tree expect drivers output = JoinExpects (lack_of tree world drivers) (setup tree world) expect output
 WorldExpects (Err fault) tree expect drivers output = output ≡ world_refused fault
 
 abbrev pub TreeExpects : Result Tree TreeFault → List ℕ → List ℕ → List DriverState → Output → Type 0

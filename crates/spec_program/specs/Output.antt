@@ -1,9 +1,10 @@
 -- What a command writes, how it ends, and what it leaves of the drivers.
-use Rattle.std.specs.Prelude.{ℕ, ◌≡◌, List, ◌++◌, codes, Option, None}
+use Rattle.std.specs.Prelude.{ℕ, ◌≡◌, List, ◌++◌, codes}
 use Rattle.spec_program.specs.declared.exit.Exit.{Exit}
 use Rattle.spec_tree.specs.declared.term.Tree.{Tree}
 use Rattle.spec_world.specs.declared.world.World.{World}
 use Rattle.spec_run.specs.Drivers.{DriverState, driver_at}
+use Rattle.spec_run.specs.Run.{RunnerCall}
 use Rattle.spec_outside.specs.Moments.{Moments}
 
 -- how often the clock was asked: never, so many times, or once for each round at these moments up to the one that faults
@@ -12,12 +13,18 @@ pub data Asked : Type 0 where
   Times : (times : ℕ) → Asked
   UpToFault : (tree : Tree) (world : World) (moments : List ℕ) → Asked
 
--- the bytes that are written, the exit, the drivers after the run, where a tree was run, and how often the clock was
--- asked
+-- the calls of drivers: none; those of the run of a tree in a world; or those of the modelled runs of a plan, which leave
+-- these drivers
+pub data Calls : Type 0 where
+  NoCalls : Calls
+  OfRun : (tree : Tree) (world : World) (calls : List RunnerCall) → Calls
+  OfPlan : (after : List DriverState) → Calls
+
+-- the bytes that are written, the exit, the calls of drivers, and how often the clock was asked
 pub record Output : Type 0 where
   pub bytes : List ℕ
   pub exit : Exit
-  pub drivers : Option (List DriverState)
+  pub calls : Calls
   pub asked : Asked
 
 -- no driver was called
@@ -30,7 +37,7 @@ Begun = List DriverState → List DriverState → Type 0
 
 -- one line is written, and no tree was run
 abbrev pub line_of : List ℕ → Exit → Output
-line_of line exit = record { bytes = line; exit = exit; drivers = None; asked = Never }
+line_of line exit = record { bytes = line; exit = exit; calls = NoCalls; asked = Never }
 
 -- a refusal is one line
 abbrev pub refused : List ℕ → Exit → Output

@@ -8,7 +8,7 @@ use Rattle.spec_world.specs.declared.world.World.{World}
 use Rattle.spec_run.specs.Drivers.{DriverState, kind_of_row, place_of_kind}
 use Rattle.spec_tree.specs.PrintedTree.{tree_lines}
 use Rattle.spec_plan.specs.declared.ending.PlanEnd.{PlanEnd}
-use Rattle.spec_program.specs.Output.{Begun, Never, Output}
+use Rattle.spec_program.specs.Output.{Begun, Never, OfPlan, Output}
 use Rattle.spec_program.specs.Refused.{join_refused, no_goal}
 use Rattle.std.specs.Option.{option_or}
 use Rattle.spec_world.specs.declared.world.Row.{Row}
@@ -50,7 +50,7 @@ plan_bytes planned = concat (map step_line planned.steps) ++ (end_line no_names 
 
 -- what is printed of a plan, with the drivers that its modelled runs leave
 abbrev pub plan_output : PlanEnd → List DriverState → Output
-plan_output planned after = record { bytes = plan_bytes planned; exit = plan_exit planned.end; drivers = Some after; asked = Never }
+plan_output planned after = record { bytes = plan_bytes planned; exit = plan_exit planned.end; calls = OfPlan after; asked = Never }
 
 -- this is printed of a plan run of the world, whose tree can be printed and read
 pub record IsPlanned (world : World) (limits : Limits) (drivers : List DriverState) (output : Output) : Type 0 where

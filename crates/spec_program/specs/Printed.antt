@@ -13,7 +13,7 @@ use Rattle.spec_tree.specs.declared.term.Tree.{Tree}
 use Rattle.spec_output.specs.Lines.{quoted}
 use Rattle.spec_tree.specs.PrintedTree.{tree_lines}
 use Rattle.spec_tree.specs.Terms.{node_count, work_of}
-use Rattle.spec_program.specs.Output.{Never, Output}
+use Rattle.spec_program.specs.Output.{Never, NoCalls, Output}
 use Rattle.spec_program.specs.Refused.{ground_refused, rules_refused, tree_refused}
 use Rattle.spec_world_file.specs.GroundFile.{Grounded}
 
@@ -44,15 +44,15 @@ printed_bytes print.Dead tree = concat (map (dead_line (node_ids tree.term)) (de
 
 -- what is printed of a tree that was read, or its refusal
 abbrev pub print_output : Print → Result Tree TreeFault → Output
-print_output print (Ok tree) = record { bytes = printed_bytes print tree; exit = exit.Done; drivers = None; asked = Never }
+print_output print (Ok tree) = record { bytes = printed_bytes print tree; exit = exit.Done; calls = NoCalls; asked = Never }
 print_output print (Err fault) = tree_refused fault
 
 -- what is printed of a tree that rules make, or their refusal
 abbrev pub print_made : Result Tree MockFault → Output
-print_made (Ok tree) = record { bytes = printed_bytes print.Whole tree; exit = exit.Done; drivers = None; asked = Never }
+print_made (Ok tree) = record { bytes = printed_bytes print.Whole tree; exit = exit.Done; calls = NoCalls; asked = Never }
 print_made (Err fault) = rules_refused fault
 
 -- the text of a ground file, or its refusal
 abbrev pub ground_output : Result Grounded GroundFault → Output
-ground_output (Ok g) = record { bytes = g.text; exit = exit.Done; drivers = None; asked = Never }
+ground_output (Ok g) = record { bytes = g.text; exit = exit.Done; calls = NoCalls; asked = Never }
 ground_output (Err fault) = ground_refused fault

@@ -18,7 +18,7 @@ use Rattle.spec_tree.specs.declared.term.Term.{Term}
 use Rattle.spec_tree.specs.declared.term.Tree.{Tree}
 use Rattle.spec_world.specs.declared.world.World.{World}
 use Rattle.spec_run.specs.Done.{Call}
-use Rattle.spec_run.specs.Drivers.{DriverState, after_call, driver_at, new_driver, roster_called}
+use Rattle.spec_run.specs.Drivers.{DriverState, after_call, driver_at, new_driver, roster_called, roster_prepared}
 use Rattle.spec_run.specs.Run.{RunState, Runner, RunnerCall, Stepped, Trace, before_rest, finish, releases, quench_calls, reset_step, root_reset, root_view, runner_at, runner_calls, state_of, then_rest, told, with_runner}
 use Rattle.base_tables.specs.Sound.{begins, begun_calls}
 use Rattle.run_laws.proofs.TermWork.{resets_make_none}
@@ -31,9 +31,11 @@ use Rattle.run_loop.specs.declared.runs.Runs.{Runs}
 use Rattle.run_loop.specs.Runs.{arenas_of, nodes_of_runner, roster_over}
 use Rattle.run_loop.specs.Steps.{EventEnds}
 use Rattle.spec_run.specs.Rosters.{IsSameRoster}
-use Rattle.run_loop.proofs.Rising.{over_same}
-use Rattle.text_trace.specs.Halted.{AreHalts, IsCut, HaveHalted}
-use Rattle.spec_output.specs.Cuts.{HaveBegunWithin}
+use Rattle.spec_run.specs.Served.{call_made, calls_made, instance_number, instances_wanted, place_called, roster_after_run, serving_places}
+use Rattle.run_loop.proofs.Preparing.{prepared_same}
+use Rattle.run_loop.proofs.Rising.{all_made_same, over_same, roster_both}
+use Rattle.text_trace.specs.Halted.{IsCut, HaveHalted}
+use Rattle.spec_output.specs.Cuts.{AreHalts, HasBegunWithin, HaveBegunWithin, IsCutOff}
 
 pub over_both : (arenas : List (List Node)) (xs ys : List RunnerCall) (ds : List DriverState) → roster_over arenas (xs ++ ys) ds ≡ roster_over arenas ys (roster_over arenas xs ds)
 over_both arenas [] ys ds = refl
@@ -244,19 +246,56 @@ halts_begun arenas (c ∷ calls) ds place are =
     let found = leaf_at (nodes_of_runner arenas c.runner) c.call.uid in
     halts_begun arenas calls (leaf_called found c.call ds) place are.1 ∙ leaf_begun found c.call ds place are.0
 
+-- calls were made, then some that halt, and in the whole run others: no more was begun than in the whole run
+begun_within : (before made after whole : List DriverState) (place : ℕ) → IsSameRoster before made → IsSameRoster made whole → begun_of after place ≡ begun_of made place
+    → HasBegunWithin (driver_at before place).totals (driver_at after place).totals (driver_at whole place).totals
+begun_within before made after whole place first then now =
+    let starts_now : (driver_at after place).totals.starts ≡ (driver_at made place).totals.starts = ap (λ (p : ℕ × ℕ). p.0) now in
+    let runnings_now : (driver_at after place).totals.runnings ≡ (driver_at made place).totals.runnings = ap (λ (p : ℕ × ℕ). p.1) now in
+    record {
+      starts = λ few. let a = (first.totals place).starts few in let b = (then.totals place).starts a.1 in omega (arith, starts_now, b.0);
+      runnings = λ few. let a = (first.totals place).runnings few in let b = (then.totals place).runnings a.1 in omega (arith, runnings_now, b.0);
+    }
+
 -- drivers of a run that was cut off were asked to start and to go on no more often than in the whole run
 pub cut_has_begun_within : (arenas : List (List Node)) (before after : List DriverState) (trace : Trace) → IsCut arenas before after trace → HaveBegunWithin before after (roster_over arenas trace.calls before)
 cut_has_begun_within arenas before after trace cut place =
     let made : List DriverState = roster_over arenas cut.made before in
-    let first : IsSameRoster before made = over_same arenas cut.made before in
-    let then : IsSameRoster made (roster_over arenas cut.unmade made) = over_same arenas cut.unmade made in
     let whole : roster_over arenas cut.unmade made ≡ roster_over arenas trace.calls before = sym (over_both arenas cut.made cut.unmade before) ∙ ap (λ (cs : List RunnerCall). roster_over arenas cs before) cut.all in
-    let now : begun_of after place ≡ begun_of made place = ap (λ (ds : List DriverState). begun_of ds place) (cut.drivers ∙ over_both arenas cut.made cut.halts before) ∙ halts_begun arenas cut.halts made place cut.are in
-    let starts_now : (driver_at after place).totals.starts ≡ (driver_at made place).totals.starts = ap (λ (p : ℕ × ℕ). p.0) now in
-    let runnings_now : (driver_at after place).totals.runnings ≡ (driver_at made place).totals.runnings = ap (λ (p : ℕ × ℕ). p.1) now in
-    let starts_whole : (driver_at (roster_over arenas cut.unmade made) place).totals.starts ≡ (driver_at (roster_over arenas trace.calls before) place).totals.starts = ap (λ (ds : List DriverState). (driver_at ds place).totals.starts) whole in
-    let runnings_whole : (driver_at (roster_over arenas cut.unmade made) place).totals.runnings ≡ (driver_at (roster_over arenas trace.calls before) place).totals.runnings = ap (λ (ds : List DriverState). (driver_at ds place).totals.runnings) whole in
-    record {
-      starts = λ few. let a = (first.totals place).starts few in let b = (then.totals place).starts a.1 in omega (arith, starts_now, starts_whole, b.0);
-      runnings = λ few. let a = (first.totals place).runnings few in let b = (then.totals place).runnings a.1 in omega (arith, runnings_now, runnings_whole, b.0);
-    }
+    begun_within before made after (roster_over arenas trace.calls before) place (over_same arenas cut.made before)
+    (subst (IsSameRoster made) whole (over_same arenas cut.unmade made))
+    (ap (λ (ds : List DriverState). begun_of ds place) (cut.drivers ∙ over_both arenas cut.made cut.halts before) ∙ halts_begun arenas cut.halts made place cut.are)
+
+-- ---- Calls of a run of a tree in a world
+
+module _ (runners : ℕ) (places : List (Option ℕ)) where
+  made_both : (xs ys : List RunnerCall) (ds : List DriverState) → calls_made runners places (xs ++ ys) ds ≡ calls_made runners places ys (calls_made runners places xs ds)
+  made_both [] ys ds = refl
+  made_both (x ∷ xs) ys ds = made_both xs ys _
+
+  call_begun : (found : Option ℕ) (c : RunnerCall) (ds : List DriverState) (place : ℕ) → c.call.phase ≡ phase.Halted → begun_of (call_made found places c ds) place ≡ begun_of ds place
+  call_begun None c ds place is = refl
+  call_begun (Some driver) c ds place is =
+      let instance : ℕ = instance_number places c.runner driver c.call.uid in
+      ap (λ (p : Phase). begun_of (roster_called ds driver p instance c.call.left) place) is
+      ∙ (λ i. (halted_starts ds driver instance c.call.left place i, halted_runnings ds driver instance c.call.left place i))
+
+  calls_begun : (calls : List RunnerCall) (ds : List DriverState) (place : ℕ) → AreHalts calls → begun_of (calls_made runners places calls ds) place ≡ begun_of ds place
+  calls_begun [] ds place are = refl
+  calls_begun (c ∷ calls) ds place are =
+      let found = place_called runners places c in
+      calls_begun calls (call_made found places c ds) place are.1 ∙ call_begun found c ds place are.0
+
+-- .. and so were those of a run of which this is said by its tree and its world
+pub cut_off_has_begun_within : (tree : Tree) (world : World) (calls : List RunnerCall) (old new : List DriverState) → IsCutOff tree world calls old new → HaveBegunWithin old new (roster_after_run tree world old calls)
+cut_off_has_begun_within tree world calls old new cut place =
+    let places : List (Option ℕ) = serving_places tree world old in
+    let prepared : List DriverState = roster_prepared old (instances_wanted tree world old) in
+    let made : List DriverState = calls_made world.runners places cut.made prepared in
+    let whole : calls_made world.runners places cut.unmade made ≡ roster_after_run tree world old calls =
+    sym (made_both world.runners places cut.made cut.unmade prepared) ∙ ap (λ (cs : List RunnerCall). calls_made world.runners places cs prepared) cut.all in
+    begun_within old made new (roster_after_run tree world old calls) place
+    (roster_both old prepared made (prepared_same old (instances_wanted tree world old)) (all_made_same world.runners places cut.made prepared))
+    (subst (IsSameRoster made) whole (all_made_same world.runners places cut.unmade made))
+    (ap (λ (ds : List DriverState). begun_of ds place) (cut.drivers ∙ made_both world.runners places cut.made cut.halts prepared)
+    ∙ calls_begun world.runners places cut.halts made place cut.are)

@@ -1,15 +1,10 @@
 -- Calls of a run that was cut off.
 use Rattle.std.specs.Prelude.{◌≡◌, List, ◌++◌}
-use Rattle.std.specs.List.{AllByRecursion}
 use Rattle.spec_run.specs.Drivers.{DriverState}
 use Rattle.spec_run.specs.Run.{RunnerCall, Trace}
 use Rattle.run_arena.specs.declared.nodes.Node.{Node}
 use Rattle.run_loop.specs.Runs.{roster_over}
-use Rattle.spec_run.specs.declared.leaf.Phase.TheVariants as phase
-
--- calls that halt what is held
-abbrev pub AreHalts : List RunnerCall → Type 0
-AreHalts calls = AllByRecursion (λ (c : RunnerCall). c.call.phase ≡ phase.Halted) calls
+use Rattle.spec_output.specs.Cuts.{AreHalts}
 
 -- the drivers had such calls alone
 pub record HaveHalted (arenas : List (List Node)) (before after : List DriverState) : Type 0 where

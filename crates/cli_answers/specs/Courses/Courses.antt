@@ -1,16 +1,14 @@
 -- What a run gives that was joined.
-use Rattle.std.specs.Prelude.{List, Some, Result, Ok, Err}
-use Rattle.run_arena.specs.declared.nodes.Node.{Node}
-use Rattle.spec_run.specs.Served.{Setup}
-use Rattle.run_loop.specs.Runs.{roster_over}
-use Rattle.spec_run.specs.Drivers.{DriverState}
-use Rattle.spec_run.specs.Run.{Trace, run_over}
-use Rattle.spec_outside.specs.Moments.{Moments}
+use Rattle.std.specs.Prelude.{List, Result, Ok, Err}
 use Rattle.spec_program.specs.declared.course.Course.{Course}
-use Rattle.spec_program.specs.Courses.{Given, given, run_exit}
-use Rattle.spec_program.specs.Output.{Output}
 use Rattle.spec_program.specs.declared.exit.Exit.{Exit}
 use Rattle.spec_program.specs.declared.exit.Exit.TheVariants as exit
+use Rattle.spec_program.specs.Answers.{AtMoments, Gave, Side, side}
+use Rattle.spec_program.specs.Courses.{given, run_output}
+use Rattle.spec_run.specs.Drivers.{DriverState}
+use Rattle.spec_run.specs.Served.{Setup}
+use Rattle.run_loop.specs.declared.runs.Runs.{Runs}
+use Rattle.run_loop.specs.Begun.{AreBegun}
 use Rattle.text_trace.specs.declared.ended.Ended.{Ended}
 use Rattle.text_trace.specs.declared.ended.Ended.TheVariants.{Done, Faulted}
 use Rattle.text_lines.specs.declared.stop.TextStop.{TextStop}
@@ -23,16 +21,8 @@ exit_of (Ok Faulted) = exit.Fault
 exit_of (Err stop.WriteFault) = exit.Write
 exit_of (Err stop.NoMemory) = exit.Memory
 
--- the output of this trace: the drivers had its calls, in their order
-abbrev pub trace_output : Setup → List (List Node) → Given → Trace → Output
-trace_output of arenas g trace = record {
-  bytes = g.bytes of.tree of.world trace;
-  exit = run_exit trace.fault;
-  drivers = Some (roster_over arenas trace.calls g.drivers);
-  asked = g.asked of.tree of.world trace.fault;
-}
-
--- the output of a run on this course, at these moments and with these drivers, which were prepared for it
-abbrev pub course_output : Setup → List (List Node) → Course → Moments → List DriverState → Output
-course_output of arenas course moments drivers =
-    trace_output of arenas (given course moments drivers) (run_over of.tree of.world ((given course moments drivers).events of.world))
+-- the output of a run on this course was given, over whatever drivers were prepared for it
+abbrev pub RunGave : Setup → Course → Runs → Exit → Side → Side → Type 0
+RunGave of course runs result old new = (before : List DriverState) → AreBegun of.tree of.world before old.drivers runs →
+    AtMoments old.clock (λ moments.
+    Gave (run_output of.tree of.world (given course moments before)) result (side old.written old.faults old.clock before) new)

@@ -3,12 +3,10 @@ ghost use Rattle.spec_run.specs.Joins.{first_untold};
 ghost use Rattle.spec_run.specs.Run.{opening};
 ghost use Rattle.spec_tree.specs.Trees.{nodes_of};
 ghost use Rattle.spec_output.specs.Lines.{line_names};
-ghost use Rattle.spec_program.specs.Answers.{Gave};
-ghost use Rattle.run_loop.specs.Runs.{arenas_of};
 ghost use Rattle.expect_watch.specs.Begun.{Wanted};
 ghost use Rattle.expect_watch.specs.Over.{AreOver};
 ghost use Rattle.text_trace.specs.Traces.{CanRun, state_in};
-ghost use Rattle.cli_answers.specs.Courses.Expecting.{expect_exit_of, expecting_on};
+ghost use Rattle.cli_answers.specs.Courses.Expecting.{ExpectGave, expect_exit_of};
 ghost use Rattle.spec_run.specs.Served.{Setup};
 ghost use Rattle.spec_run.specs.Drivers.{NothingHeld};
 ghost use Rattle.spec_run.specs.Joins.{lack_of};
@@ -75,7 +73,7 @@ fn run_watched<S: Shelf, K: Sink, C: Clock, D: Drivers>(
     requires runs { CanRun wanted.of (D.states outside.old.drivers.now) runs }
     requires opening { state_in wanted.of (D.states outside.old.drivers.now) runs ≡ opening wanted.of.tree wanted.of.world }
     requires told { first_untold wanted.of.world.rows (nodes_of wanted.of.tree.term) wanted.of.world.events ≡ None }
-    ensures gave { Gave (expecting_on wanted.of (arenas_of runs) wanted.expected (D.states outside.old.drivers.now)) (expect_exit_of result)
+    ensures gave { ExpectGave wanted.of wanted.expected runs (expect_exit_of result)
         (seen K.written K.faults C.moments D.states outside.old)
         (seen K.written K.faults C.moments D.states outside.new) }
     ensures unread { outside.new.shelf.now ≡ outside.old.shelf.now }
@@ -112,7 +110,7 @@ pub fn join_and_expect<S: Shelf, K: Sink, C: Clock, D: Drivers>(
     requires valid_world { IsValidWorld world.now }
     requires short { length expect.now ≤ most_file_bytes }
     requires quiet { NothingHeld (D.states outside.old.drivers.now) }
-    ensures ends { EndsAt (λ moments drivers. JoinExpects (lack_of of.tree of.world drivers) of expect.now drivers) AreUncalled result
+    ensures ends { EndsAt (λ moments drivers. JoinExpects (lack_of of.tree of.world drivers) of expect.now) AreUncalled result
         (seen K.written K.faults C.moments D.states outside.old)
         (seen K.written K.faults C.moments D.states outside.new) }
     ensures unread { outside.new.shelf.now ≡ outside.old.shelf.now }

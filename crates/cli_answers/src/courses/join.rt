@@ -1,7 +1,6 @@
 ghost use Rattle.std.specs.Prelude.{◌≡◌, IfOk, None};
 ghost use Rattle.spec_run.specs.Served.{Setup};
 ghost use Rattle.run_loop.specs.Begun.{AreBegun, HaveSameTotals};
-ghost use Rattle.run_loop.specs.Runs.{arenas_of};
 ghost use Rattle.spec_run.specs.Drivers.{NothingHeld};
 ghost use Rattle.base_tables.specs.SlotTables.{slot_table};
 ghost use Rattle.spec_run.specs.Joins.{first_untold, lack_of};
@@ -11,8 +10,7 @@ ghost use Rattle.spec_tree.specs.Trees.{nodes_of};
 ghost use Rattle.run_arena.specs.Joining.{Joins};
 ghost use Rattle.base_tables.specs.Runnable.{IsRunnable};
 ghost use Rattle.spec_world.specs.Worlds.{IsValidWorld};
-ghost use Rattle.spec_program.specs.Answers.{AtMoments, Gave};
-ghost use Rattle.cli_answers.specs.Courses.Courses.{exit_of, course_output};
+ghost use Rattle.cli_answers.specs.Courses.Courses.{RunGave, exit_of};
 ghost use Rattle.cli_refusals.specs.Ends.{EndsAt};
 ghost use Rattle.spec_program.specs.declared.course.Course.TheVariants as course;
 ghost use Rattle.cli_refusals.specs.Lent.Lent.{Stays, seen};
@@ -60,10 +58,9 @@ fn run_summed<S: Shelf, K: Sink, C: Clock, D: Drivers>(
     requires opening { state_in of (D.states outside.old.drivers.now) runs ≡ opening of.tree of.world }
     requires events { events.now ≡ of.world.events }
     requires told { first_untold of.world.rows (nodes_of of.tree.term) of.world.events ≡ None }
-    ensures gave { AtMoments (C.moments outside.old.clock.now) (λ moments.
-        Gave (course_output of (arenas_of runs) (course.Load leaves) moments (D.states outside.old.drivers.now)) (exit_of result)
+    ensures gave { RunGave of (course.Load leaves) runs (exit_of result)
         (seen K.written K.faults C.moments D.states outside.old)
-        (seen K.written K.faults C.moments D.states outside.new)) }
+        (seen K.written K.faults C.moments D.states outside.new) }
     ensures unread { outside.new.shelf.now ≡ outside.old.shelf.now }
     ensures stays { Stays S.faults K.faults D.states outside.old outside.new }
 {
@@ -88,10 +85,9 @@ fn run<S: Shelf, K: Sink, C: Clock, D: Drivers>(
     requires events { events.now ≡ of.world.events }
     requires told { first_untold of.world.rows (nodes_of of.tree.term) of.world.events ≡ None }
     requires names { names.now ≡ names_on course of.tree of.world }
-    ensures gave { AtMoments (C.moments outside.old.clock.now) (λ moments.
-        Gave (course_output of (arenas_of runs) course moments (D.states outside.old.drivers.now)) result
+    ensures gave { RunGave of course runs result
         (seen K.written K.faults C.moments D.states outside.old)
-        (seen K.written K.faults C.moments D.states outside.new)) }
+        (seen K.written K.faults C.moments D.states outside.new) }
     ensures unread { outside.new.shelf.now ≡ outside.old.shelf.now }
     ensures stays { Stays S.faults K.faults D.states outside.old outside.new }
 {

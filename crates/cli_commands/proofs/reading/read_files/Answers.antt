@@ -1,5 +1,5 @@
 use Rattle.std.proofs.lemmas.Result.{err_from_is_err_and}
-use Rattle.spec_program.specs.Reads.{AllRead}
+use Rattle.spec_program.specs.Files.{Contents}
 use Rattle.cli_commands.proofs.Files.{read_first, read_last, short_of, stop_first, stop_last, stop_later, told_of}
 use Rattle.spec_program.specs.declared.file.File.TheVariants as file
 use Rattle.cli_commands.proofs.reading.read_files.Goals as goal
@@ -32,10 +32,11 @@ returns-in_err-expect-clause-unread g c =
 
 pub returns-clause-read : goal.returns-clause-read
 returns-clause-read g c =
-    rw (← c.names_of-names.ensures) (read_first g.S.Shelf.read_gives g.S.Shelf.faults (g.S.Shelf.holds c.args.shelf.now) file.Tree _ _ _ _ _ _ AllRead c.in_ok-tree.ensures.read
-    (read_first g.S.Shelf.read_gives g.S.Shelf.faults (g.S.Shelf.holds c.args.shelf.now) file.World _ _ _ _ _ _ AllRead (rw c.in_ok-tree.ensures.holds at c.in_ok-world.ensures.read)
-    (read_first g.S.Shelf.read_gives g.S.Shelf.faults (g.S.Shelf.holds c.args.shelf.now) file.Rules _ _ _ _ _ _ AllRead (rw (c.in_ok-world.ensures.holds, c.in_ok-tree.ensures.holds) at c.in_ok-rules.ensures.read)
-    (read_last g.S.Shelf.read_gives g.S.Shelf.faults (g.S.Shelf.holds c.args.shelf.now) file.Expect _ _ _ _ (rw (c.in_ok-rules.ensures.holds, c.in_ok-world.ensures.holds, c.in_ok-tree.ensures.holds) at c.in_ok-expect.ensures.read)))))
+    let contents : Contents = record { tree = c.in_ok-tree.tree.items; world = c.in_ok-world.world.items; rules = c.in_ok-rules.rules.items; expect = c.in_ok-expect.expect.items } in
+    rw (← c.names_of-names.ensures) (read_first g.S.Shelf.read_gives g.S.Shelf.faults (g.S.Shelf.holds c.args.shelf.now) file.Tree _ _ contents _ _ _ c.in_ok-tree.ensures.read
+    (read_first g.S.Shelf.read_gives g.S.Shelf.faults (g.S.Shelf.holds c.args.shelf.now) file.World _ _ contents _ _ _ (rw c.in_ok-tree.ensures.holds at c.in_ok-world.ensures.read)
+    (read_first g.S.Shelf.read_gives g.S.Shelf.faults (g.S.Shelf.holds c.args.shelf.now) file.Rules _ _ contents _ _ _ (rw (c.in_ok-world.ensures.holds, c.in_ok-tree.ensures.holds) at c.in_ok-rules.ensures.read)
+    (read_last g.S.Shelf.read_gives g.S.Shelf.faults (g.S.Shelf.holds c.args.shelf.now) file.Expect _ contents _ _ (rw (c.in_ok-rules.ensures.holds, c.in_ok-world.ensures.holds, c.in_ok-tree.ensures.holds) at c.in_ok-expect.ensures.read)))))
 
 pub returns-clause-within : goal.returns-clause-within
 returns-clause-within g c =

@@ -2,7 +2,8 @@ use Rattle.std.proofs.Common.{[], ◌++◌, Some, refl}
 use Rattle.std.specs.Option.{option_copied}
 use Rattle.std.proofs.lemmas.Result.{err_from_is_err_and}
 use Rattle.cli_commands.proofs.Files.{no_bytes, read_first, short_of, stop_first, stop_later, told_of}
-use Rattle.spec_program.specs.Reads.{AllRead, if_named}
+use Rattle.spec_program.specs.Files.{Contents}
+use Rattle.spec_program.specs.Reads.{if_named}
 use Rattle.spec_program.specs.declared.file.File.TheVariants as file
 use Rattle.cli_serve.specs.Files.{world_bytes}
 use Rattle.cli_serve.proofs.files.read_files.Goals as goal
@@ -25,10 +26,11 @@ returns-in_err-world-clause-unread g c =
 
 pub returns-clause-read : goal.returns-clause-read
 returns-clause-read g c =
+    let contents : Contents = record { tree = c.in_ok-tree.tree.items; world = world_bytes c.in_ok-world.world; rules = []; expect = [] } in
     read_first g.S.Shelf.read_gives g.S.Shelf.faults (g.S.Shelf.holds c.args.shelf.now) file.Tree (Some c.args.serve.tree.now) (if_named file.World (option_copied c.args.serve.world) ++ [])
-    c.in_ok-tree.tree.items c.args.shelf.now c.read_named.new.shelf c.read_world.new.shelf AllRead c.in_ok-tree.ensures.read
+    contents c.args.shelf.now c.read_named.new.shelf c.read_world.new.shelf c.in_ok-tree.ensures.read
     (read_first g.S.Shelf.read_gives g.S.Shelf.faults (g.S.Shelf.holds c.args.shelf.now) file.World (option_copied c.args.serve.world) []
-    (world_bytes c.in_ok-world.world) c.read_named.new.shelf c.read_world.new.shelf c.read_world.new.shelf AllRead (rw c.in_ok-tree.ensures.holds at c.in_ok-world.ensures.read) refl)
+    contents c.read_named.new.shelf c.read_world.new.shelf c.read_world.new.shelf (rw c.in_ok-tree.ensures.holds at c.in_ok-world.ensures.read) refl)
 
 pub returns-clause-within : goal.returns-clause-within
 returns-clause-within g c =

@@ -27,10 +27,10 @@ returns-in_err-runs-clause-ends g c =
 pub returns-in-Ok-clause-ends : goal.returns-in-Ok-clause-ends
 returns-in-Ok-clause-ends g c =
     let q = c.requires.1.1.1.1 in
-    rw c.exit_of.ensures (expected_ends g.of c.in_ok-runs.runs (g.D.Drivers.states c.args.outside.now.drivers.now) (g.D.Drivers.states c.joined_runs.new.drivers) c.args.expect.now c.in-Ok.expected
-    c.in_ok-runs.ensures.fault c.in_ok-runs.ensures.begun.prepared c.joined_runs.ensures.totals
-    c.in_ok-runs.ensures.begun.calls (rw (q.0, q.1.0) at c.in-Ok.ensures.reads) _
-    (seen g.K.Sink.written g.K.Sink.faults g.C.Clock.moments g.D.Drivers.states c.args.outside.now) _ c.run_watched.ensures.gave)
+    rw c.exit_of.ensures (expected_ends g.of (g.D.Drivers.states c.args.outside.now.drivers.now) c.args.expect.now c.in-Ok.expected
+    c.in_ok-runs.ensures.fault (rw (q.0, q.1.0) at c.in-Ok.ensures.reads) _
+    (seen g.K.Sink.written g.K.Sink.faults g.C.Clock.moments g.D.Drivers.states c.args.outside.now) _
+    (c.run_watched.ensures.gave (g.D.Drivers.states c.args.outside.now.drivers.now) c.in_ok-runs.ensures.begun))
 
 pub returns-clause-ends : goal.returns-clause-ends
 returns-clause-ends g c =

@@ -29,10 +29,9 @@ returns-in_err-runs-clause-ends g c =
 
 pub returns-clause-ends : goal.returns-clause-ends
 returns-clause-ends g c =
-    joined_ends g.of c.in_ok-runs.runs (g.D.Drivers.states c.args.outside.now.drivers.now) (g.D.Drivers.states c.joined_runs.new.drivers) c.args.course
-    c.in_ok-runs.ensures.fault c.in_ok-runs.ensures.begun.prepared c.joined_runs.ensures.totals
-    c.in_ok-runs.ensures.begun.calls c.run.result
-    (seen g.K.Sink.written g.K.Sink.faults g.C.Clock.moments g.D.Drivers.states c.args.outside.now) _ c.run.ensures.gave
+    joined_ends g.of (g.D.Drivers.states c.args.outside.now.drivers.now) c.args.course c.in_ok-runs.ensures.fault c.run.result
+    (seen g.K.Sink.written g.K.Sink.faults g.C.Clock.moments g.D.Drivers.states c.args.outside.now) _
+    (c.run.ensures.gave (g.D.Drivers.states c.args.outside.now.drivers.now) c.in_ok-runs.ensures.begun)
 
 pub run-requires : goal.run-requires
 run-requires g c κs within =

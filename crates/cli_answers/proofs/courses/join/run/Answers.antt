@@ -11,11 +11,11 @@ run_events-requires g c κs within =
 pub returns-in-Script-clause-gave : goal.returns-in-Script-clause-gave
 returns-in-Script-clause-gave g c =
     let named = rw c.in-Script.is at c.requires.1.1.1.1.1.1.1.1 in
-    rw (c.in-Script.is, c.exit_of.ensures) (script_gave g.of c.args.runs _ _ c.requires.1.1.1.1.1.0 _ _ (ap block_text named) c.args.events.now c.requires.1.1.1.1.1.1.0 _ c.run_events.result
+    rw (c.in-Script.is, c.exit_of.ensures) (λ before begun. script_gave g.of c.args.runs _ _ c.requires.1.1.1.1.1.0 before begun _ _ (ap block_text named) c.args.events.now c.requires.1.1.1.1.1.1.0 _ c.run_events.result
     c.run_events.ensures.leaves c.run_events.ensures.watcher.failed)
 
 pub returns-in-Rounds-clause-gave : goal.returns-in-Rounds-clause-gave
 returns-in-Rounds-clause-gave g c =
     let named = rw c.in-Rounds.is at c.requires.1.1.1.1.1.1.1.1 in
-    rw (c.in-Rounds.is, c.exit_of-in-Rounds.ensures) (rounds_gave g.of c.args.runs _ _ c.requires.1.1.1.1.1.0 _ _ (ap block_text named) c.in-Rounds.rounds _ _ c.run_rounds.result
+    rw (c.in-Rounds.is, c.exit_of-in-Rounds.ensures) (λ before begun. rounds_gave g.of c.args.runs _ _ c.requires.1.1.1.1.1.0 before begun _ _ (ap block_text named) c.in-Rounds.rounds _ _ c.run_rounds.result
     c.run_rounds.ensures.leaves c.run_rounds.ensures.watcher.failed c.run_rounds.ensures.asked)
