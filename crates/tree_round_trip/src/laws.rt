@@ -54,7 +54,9 @@ pub fn printed_trees_read_back()
 /// So do the printed bytes of a tree with comments before them, each on a line of its own.
 pub fn printed_trees_read_back_after_comments()
     ensures alike { (bodies : List (List ℕ)) (tree : Tree) → AllByRecursion CanRemark bodies → IsValid tree → OpensAlike tree
-        → (f : Element) × Spells (concat (map remark_line bodies) ++ concat (tree_lines tree)) f × (manifest_in f ≡ Ok []) × (reads [] None f ≡ Ok tree) }
+        → (f : Element) × Spells (concat (map remark_line bodies) ++ concat (tree_lines tree)) f
+        × (manifest_in f ≡ Ok []) × (reads [] None f ≡ Ok tree) }
     ensures lone { (bodies : List (List ℕ)) (tree : Tree) → AllByRecursion CanRemark bodies → IsValid tree → scope_count tree.term ≡ 0
-        → (f : Element) × Spells (concat (map remark_line bodies) ++ concat (tree_lines tree)) f × (manifest_in f ≡ Ok []) × (reads [] None f ≡ Ok tree) }
+        → (f : Element) × Spells (concat (map remark_line bodies) ++ concat (tree_lines tree)) f
+        × (manifest_in f ≡ Ok []) × (reads [] None f ≡ Ok tree) }
 {}
