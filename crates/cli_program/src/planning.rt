@@ -1,4 +1,5 @@
 ghost use Rattle.std.specs.Prelude.{◌≢◌, [], IfOk, OnErr, map};
+ghost use Rattle.plan_search.specs.Lacking.{NamesSome};
 ghost use Rattle.plan_search.specs.Reached.{AreInRange, IsReached};
 ghost use Rattle.plan_search.specs.Served.{AreServed};
 ghost use Rattle.spec_plan.specs.PlanAnswers.{IsPlan, IsPlanCut, StandsAlone};
@@ -30,6 +31,7 @@ pub fn plan_over(
     ensures plan { IfOk result (λ planned.
         IsPlan world.now limits.now (map (λ b. state b) roster.old.items) (map (λ b. state b) roster.new.items) planned) }
     ensures reached { IfOk result (λ planned. IsReached world.now limits.now planned.end) }
+    ensures named { IfOk result (λ planned. NamesSome planned.end) }
     ensures alone { IfOk result (λ planned. StandsAlone planned.end) }
     ensures cut { OnErr result
         (IsPlanCut world.now limits.now (map (λ b. state b) roster.old.items) (map (λ b. state b) roster.new.items)) }
