@@ -225,18 +225,6 @@ fn lay_terms<D: Drivers>(
     Ok(uids)
 }
 
-/// The number of nodes of a term.
-pub fn nodes_in(term: &Term) -> u32
-    requires { node_count term.now < 2 ^ 32 }
-    ensures { result ≡ node_count term.now }
-{
-    let mut count = 1;
-    for child in term.children.list() {
-        count += nodes_in(child);
-    }
-    count
-}
-
 /// The nodes of a tree by uid, or want of memory.
 pub(crate) fn nodes_of<D: Drivers>(
     setting: &Setting,

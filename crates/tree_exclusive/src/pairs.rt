@@ -9,7 +9,8 @@ ghost use Rattle.tree_exclusive.specs.Steps.{IsFound, Rising, below, beyond, by_
 use crate::laws::no_run_holds_exclusive_leaves_together;
 use crate::leaves::leaves_of;
 use crate::meetings::{may_meet, meeting_at};
-use crate::steps::{Step, nodes_in};
+use crate::steps::Step;
+use base_tables::nodes_in;
 use base_texts::{Name, NoMemory};
 use spec_exclusive::{Meeting, Pair};
 use spec_tree::{Term, Tree};
