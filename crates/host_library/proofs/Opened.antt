@@ -1,6 +1,6 @@
 -- What is opened of a tree whose leaves are all told what they answer, and what C is told of an opening.
 use Rattle.std.proofs.Common.{◌≡◌, ◌⊎◌, ℕ, List, [], ◌∷◌, Bool, true, false, Option, Ok, Err, inl, inr, refl, sym, subst}
-use Rattle.std.specs.Prelude.{Result, MatchBool}
+use Rattle.std.specs.Prelude.{Result}
 use Rattle.std.specs.Global.{Global}
 use Rattle.std.specs.declared.boxed.Box.{Box}
 use Rattle.base_texts.specs.Stops.{Gives}
@@ -9,7 +9,6 @@ use Rattle.base_texts.specs.declared.stop.Stop.TheVariants as stop
 use Rattle.cli_refusals.specs.declared.refusal.Refusal.{Refusal}
 use Rattle.cli_refusals.specs.declared.refusal.Refusal.TheVariants as refusal
 use Rattle.cli_serve.specs.Rows.{IsTreeOf, MadeOf, ToldWorld}
-use Rattle.spec_program.specs.declared.tree_fault.TreeFault.{TreeFault}
 use Rattle.spec_program.specs.declared.tree_fault.TreeFault.TheVariants as fault
 use Rattle.spec_program.specs.Gives.{is_too_long}
 use Rattle.spec_program.specs.TreeFiles.{TreeReads}
@@ -24,6 +23,7 @@ use Rattle.spec_tree_file.specs.ElementFaults.{ElementFaultOf}
 use Rattle.spec_world.specs.declared.world.World.{World}
 use Rattle.tree_elements.proofs.Verdicts.{not_both}
 use Rattle.world_reader.specs.Readings as readings
+use Rattle.host_session.proofs.Files.{when_not}
 use Rattle.host_library.specs.declared.hosted.Hosted.{Hosted}
 use Rattle.host_library.specs.Opening.{Explained, Given, OpensIn, OpensTold, ToldOpens, main_of, refused_as, session_of, told_stop}
 use Rattle.host_library.specs.Texts.{TextTold}
@@ -57,18 +57,12 @@ refused_told bytes tree (refusal.Rules f) of told = absurd told
 refused_told bytes tree (refusal.Expect f) of told = absurd told
 refused_told bytes tree (refusal.Ground f) of told = absurd told
 
-when_short : (main : Option (List ℕ)) (bytes : List ℕ) (tree : Tree) (sitting : Result Sitting OpenFault) (b : Bool) → b ≡ false
-    → TreeReads main bytes (Ok tree) → ToldOpens (Ok tree) bytes sitting
-    → MatchBool b (sitting ≡ Err open_fault.TreeTooLong) ((read : Result Tree TreeFault) × TreeReads main bytes read × ToldOpens read bytes sitting)
-when_short main bytes tree sitting true short reads told = absurd (cc)
-when_short main bytes tree sitting false short reads told = (Ok tree, reads, told)
-
 -- a file that is not too long, and is read
 pub read_told : (main : Option (List ℕ)) (bytes : List ℕ) (tree : Tree) (given : Result Sitting (Stop OpenFault)) → is_too_long bytes ≡ false
     → TreeReads main bytes (Ok tree) → readings.Gives given (ToldOpens (Ok tree) bytes) → readings.Gives given (OpensTold main bytes)
-read_told main bytes tree (Ok s) short reads told = when_short main bytes tree (Ok s) (is_too_long bytes) short reads told
+read_told main bytes tree (Ok s) short reads told = when_not _ _ (is_too_long bytes) short (Ok tree, reads, told)
 read_told main bytes tree (Err stop.NoMemory) short reads told = tt
-read_told main bytes tree (Err (stop.Fault f)) short reads told = when_short main bytes tree (Err f) (is_too_long bytes) short reads told
+read_told main bytes tree (Err (stop.Fault f)) short reads told = when_not _ _ (is_too_long bytes) short (Ok tree, reads, told)
 
 -- it is opened
 pub ok_given : (tree world main : List ℕ) (is_text : Bool) (hosted : Hosted) → is_text ≡ true → OpensIn (main_of main) tree world (Ok hosted.session)
