@@ -32,13 +32,7 @@ use Rattle.spec_plan.specs.PlanLines.{end_line, step_line}
 use Rattle.plan_search.specs.Joining.{IsNamedPlainly, JoinsWorld}
 use Rattle.plan_search.specs.Reached.{AreInRange, IsReached}
 use Rattle.plan_search.specs.Written.{IsShort}
-use Rattle.spec_plan.specs.PlanRuns.{PlanRun, Trial}
 use Rattle.spec_output.specs.NoNames.{no_names}
-use Rattle.spec_tree_file.specs.Models.{manifest_in}
-use Rattle.spec_tree_file.specs.Reads.{reads}
-use Rattle.spec_tree.specs.PrintedTree.{tree_lines}
-use Rattle.spec_tree.specs.Terms.{scope_count}
-use Rattle.spec_tree.specs.Trees.{IsValid}
 use Rattle.spec_world.specs.Worlds.{IsValidWorld}
 use Rattle.std.specs.List.{AllByRecursion, concat}
 use Rattle.spec_program.specs.Files.{Contents, Named, world_alone}
@@ -62,7 +56,7 @@ use Rattle.spec_program.specs.Gives.{Beginning, Giving, MadeGives, MockGives, Or
 use Rattle.spec_program.specs.Courses.{Given, given, joined_output, run_exit}
 use Rattle.spec_run.specs.Joins.{lack_of}
 use Rattle.spec_program.specs.Refused.{ground_refused, join_refused, no_goal, too_long, tree_refused, unread, words_refused, world_refused}
-use Rattle.spec_program.specs.TreeFiles.{TreeReads, built, element_read, with_models}
+use Rattle.spec_program.specs.TreeFiles.{TreeReads, element_read}
 use Rattle.spec_program.specs.Words.{Command, Tick, Live, Load, Check, Dead, Exclusive, Plan, Mock, MockPrint, Ground, GroundPlan, Expect}
 use Rattle.spec_program.specs.declared.file.File.{File}
 use Rattle.spec_program.specs.declared.file.File.TheVariants as file

@@ -1,13 +1,13 @@
 -- What is written of a plan is a tree file: it reads as its tree, is not too long, and the tree joins its world.
-use Rattle.std.proofs.Common.{◌≡◌, ◌≢◌, ℕ, zero, suc, ◌+◌, ◌≤◌, Bool, true, List, [], ◌∷◌, ◌++◌, length, map, Option, Some, None, Ok, inl, refl, sym, ap, subst, ◌∙◌, append_assoc, append-nil, codes, decimal}
-use Rattle.std.specs.List.{All, AllByRecursion, concat}
+use Rattle.std.proofs.Common.{◌≡◌, ℕ, zero, suc, List, [], ◌∷◌, ◌++◌, map, Option, Some, None, Ok, inl, refl, sym, ap, subst, ◌∙◌, append_assoc, append-nil, codes, decimal}
+use Rattle.std.specs.List.{AllByRecursion, concat}
 use Rattle.std.specs.Option.{option_or}
 use Rattle.spec_run.specs.declared.join_fault.JoinFault.{JoinFault}
 use Rattle.spec_run.specs.Drivers.{DriverState}
-use Rattle.spec_run.specs.Joins.{event_lacks, first_missing, first_untold, lack_of}
+use Rattle.spec_run.specs.Joins.{event_lacks, first_untold, lack_of}
 use Rattle.spec_tree.specs.declared.term.Tree.{Tree}
 use Rattle.spec_tree.specs.PrintedTree.{tree_lines}
-use Rattle.spec_tree.specs.Terms.{leaf_ids, scope_count}
+use Rattle.spec_tree.specs.Terms.{scope_count}
 use Rattle.spec_tree.specs.Trees.{IsValid, Node, nodes_of}
 use Rattle.spec_tree_file.specs.declared.element.Element.{Element}
 use Rattle.spec_tree_file.specs.Elements.{Spells}

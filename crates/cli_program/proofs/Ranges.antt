@@ -1,14 +1,13 @@
 -- The limits of a plan that words ask for are in their ranges.
-use Rattle.std.proofs.Common.{◌≡◌, ℕ, ◌≤◌, ◌&&◌, Bool, true, false, if◌then◌else◌, List, [], ◌∷◌, Option, Some, None, IfSome, refl, sym, subst, arith}
-use Rattle.std.specs.Prelude.{codes, int_le, nat_le, negsuc, option_map, pos, ℤ}
+use Rattle.std.proofs.Common.{◌≡◌, ℕ, ◌≤◌, ◌&&◌, Bool, true, if◌then◌else◌, List, [], ◌∷◌, Option, Some, None, IfSome, arith}
+use Rattle.std.specs.Prelude.{codes, nat_le, negsuc, option_map, pos, ℤ}
 use Rattle.std.specs.List.{AllByRecursion}
 use Rattle.std.specs.Str.{bytes_eq}
 use Rattle.std.proofs.lemmas.Bool.{cond_both}
 use Rattle.std.proofs.lemmas.Bool.Decides.{nat_tests}
 use Rattle.spec_script.proofs.Bools.{both}
-use Rattle.spec_plan.specs.declared.ending.Limits.{Limits}
 use Rattle.spec_program.specs.declared.options.Options.TheVariants as takes
-use Rattle.spec_program.specs.Words.{Check, Command, Dead, Exclusive, Expect, Ground, GroundPlan, Live, Load, Mock, MockPrint, Plan, Tick, are_options, before_main, check_of, command_among, command_of, commands, dead_of, exclusive_of, exclusive_with, expand_in, expect_of, from_main, ground_of, ground_plan_of, in_range, is_option, limited, limited_words, live_of, load_of, main_in, mock_of, mock_print_of, mock_run_of, number_or, period_in, plan_of, rounds_in, tick_of, ticks_in, value_of, without_strict}
+use Rattle.spec_program.specs.Words.{Check, Command, Dead, Expect, GroundPlan, Live, Load, Mock, MockPrint, Plan, Tick, are_options, before_main, check_of, command_among, command_of, commands, dead_of, exclusive_of, exclusive_with, expand_in, expect_of, from_main, ground_of, ground_plan_of, in_range, is_option, limited, limited_words, live_of, load_of, main_in, mock_of, mock_print_of, mock_run_of, number_or, period_in, plan_of, rounds_in, tick_of, ticks_in, value_of, without_strict}
 use Rattle.plan_search.specs.Reached.{AreInRange}
 
 -- the limits of a command that plans

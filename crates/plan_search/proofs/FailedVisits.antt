@@ -1,6 +1,6 @@
 -- Where a sequence of the goals fails, a condition with which one of its children begins was called and answered FAILURE.
 use Rattle.std.proofs.Common.{◌≡◌, ℕ, zero, suc, ◌+◌, Bool, true, false, List, [], ◌∷◌, ◌++◌, length, map, Option, Some, None, Result, Ok, Err, refl, sym, ap, subst, ◌∙◌, arith}
-use Rattle.std.specs.Prelude.{codes, sum_by}
+use Rattle.std.specs.Prelude.{codes}
 use Rattle.std.specs.List.{AllByRecursion}
 use Rattle.std.proofs.lemmas.List.Sums.{sum_by-cons}
 use Rattle.spec_run.specs.declared.fault.NodeFault.{NodeFault}
@@ -17,7 +17,7 @@ use Rattle.spec_run.specs.declared.status.Answer.TheVariants as answer
 use Rattle.spec_run.specs.declared.status.Status.{Status}
 use Rattle.spec_run.specs.declared.status.Status.TheVariants as status
 use Rattle.spec_tree.specs.declared.term.Kind.{Kind}
-use Rattle.spec_tree.specs.declared.term.Kind.TheVariants.{ReactiveSequence, ReactiveFallback, Leaf}
+use Rattle.spec_tree.specs.declared.term.Kind.TheVariants.{ReactiveSequence, ReactiveFallback}
 use Rattle.spec_tree.specs.declared.term.Term.{Term, Term-F, fold-roll-Term, roll-Term}
 use Rattle.spec_world.specs.declared.world.Row.{Row}
 use Rattle.spec_run.specs.Done.{Done, State, carried, done, ends}
@@ -26,12 +26,11 @@ use Rattle.spec_run.specs.Rules.Kinds.{rule}
 use Rattle.spec_run.specs.Rules.Sequences.{reactive_end, round, round_after}
 use Rattle.spec_run.specs.Ports.{new_memo, picked}
 use Rattle.spec_run.specs.Sites.{Meaning, Site, View, children_from, children_of, memory_at, remembered, sizes, view_below}
-use Rattle.spec_run.specs.Steps.{Child, Given, child_at, keep, over, reset, resets, visit}
+use Rattle.spec_run.specs.Steps.{Child, Given, child_at, keep, reset, resets, visit}
 use Rattle.spec_run.specs.Visit.{begun, change, ended, kind_rule, meaning, meaning_of_node, node_rule, or_bad_port, remembers, ruled, site_of, started, visit_by}
 use Rattle.spec_plan.specs.declared.part.Part.{Part}
 use Rattle.spec_plan.specs.declared.part.Part.TheVariants.{Goals, Sequence, Fallback, Condition, Action}
 use Rattle.spec_plan.specs.declared.places.Place.{Place}
-use Rattle.spec_plan.specs.declared.places.Spot.{Spot}
 use Rattle.spec_plan.specs.Failing.{own_place, places_from, spots_from}
 use Rattle.spec_plan.specs.Forests.{Forest, Empty, Tree}
 use Rattle.spec_plan.specs.Planned.{id_of, kind_of, no_guards, part_id, plain_node, terms_of}

@@ -1,6 +1,5 @@
 -- No leaf of a planned tree lacks its row or a driver.
-use Rattle.std.proofs.Common.{◌≡◌, ◌≢◌, ℕ, ◌+◌, Bool, true, false, cond, List, [], ◌∷◌, ◌++◌, length, map, Option, Some, None, refl, sym, ap, subst, ◌∙◌}
-use Rattle.std.specs.Prelude.{codes}
+use Rattle.std.proofs.Common.{◌≡◌, ◌≢◌, ℕ, true, false, cond, List, [], ◌∷◌, ◌++◌, length, map, Option, Some, None, refl, sym, ap, subst, ◌∙◌}
 use Rattle.std.specs.List.{All, flat_map}
 use Rattle.std.specs.Option.{option_or}
 use Rattle.std.specs.Str.{bytes_eq}
@@ -10,8 +9,7 @@ use Rattle.spec_run.specs.declared.leaf.DriverKind.{DriverKind}
 use Rattle.spec_run.specs.Drivers.{DriverState, kind_of_row, place_of_kind}
 use Rattle.spec_run.specs.Joins.{first_missing, lacks_by, lacks_driver, leaf_lacks}
 use Rattle.spec_run.specs.Leaves.{row_of}
-use Rattle.spec_tree.specs.declared.term.Kind.TheVariants.{ReactiveSequence}
-use Rattle.spec_tree.specs.declared.term.Term.{Term, fold-roll-Term, roll-Term}
+use Rattle.spec_tree.specs.declared.term.Term.{fold-roll-Term, roll-Term}
 use Rattle.spec_tree.specs.declared.term.Tree.{Tree as Planned}
 use Rattle.spec_tree.specs.Terms.{leaf_ids, own_leaf_id}
 use Rattle.spec_world.specs.declared.world.Row.{Row}

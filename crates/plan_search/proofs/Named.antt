@@ -1,13 +1,9 @@
 -- Where a plan ends without a template, a condition failed.
-use Rattle.std.proofs.Common.{◌≡◌, ◌≢◌, inl, inr, ℕ, zero, suc, ◌+◌, ◌<◌, ◌≤◌, ◌==◌, ◌||◌, max, Bool, true, false, cond, List, [], ◌∷◌, ◌++◌, length, map, Option, Some, None, Result, Ok, Err, refl, sym, ap, subst, ◌∙◌, arith, append_assoc}
-use Rattle.std.specs.Prelude.{codes, count_by, slice_get, slice_index_or}
-use Rattle.std.specs.List.{All, AllByRecursion, filter, flat_map, list_any, range_with_len}
-use Rattle.std.specs.Option.{option_map_or}
+use Rattle.std.proofs.Common.{◌≡◌, ◌≢◌, inl, inr, ℕ, zero, suc, ◌+◌, ◌<◌, ◌≤◌, ◌==◌, ◌||◌, Bool, true, false, cond, List, [], ◌∷◌, ◌++◌, length, Option, Some, None, Result, Ok, Err, refl, sym, ap, subst, ◌∙◌, arith, append_assoc}
+use Rattle.std.specs.List.{AllByRecursion, filter, flat_map, list_any, range_with_len}
 use Rattle.std.proofs.lemmas.Bool.{cases_eq, or_left, or_right}
-use Rattle.std.proofs.lemmas.List.Elements.{All-head, All-tail}
 use Rattle.std.proofs.lemmas.List.Folds.{list_any-append}
 use Rattle.std.proofs.lemmas.List.Sums.{sum_by-append}
-use Rattle.std.proofs.lemmas.Option.{slice_get-map, slice_get_cases}
 use Rattle.spec_run.specs.declared.block.Header.{Header}
 use Rattle.spec_run.specs.declared.block.Header.TheVariants as header
 use Rattle.spec_run.specs.declared.fault.NodeFault.{NodeFault}
@@ -21,25 +17,21 @@ use Rattle.spec_run.specs.declared.status.Answer.{Answer}
 use Rattle.spec_run.specs.declared.status.Answer.TheVariants as answer
 use Rattle.spec_run.specs.declared.status.Status.{Status}
 use Rattle.spec_run.specs.declared.status.Status.TheVariants as status
-use Rattle.spec_tree.specs.declared.term.Kind.TheVariants.{ReactiveSequence}
-use Rattle.spec_tree.specs.declared.term.Term.{Term, roll-Term}
 use Rattle.spec_tree.specs.declared.term.Tree.{Tree as Planned}
 use Rattle.spec_world.specs.declared.world.Row.{Row}
 use Rattle.spec_world.specs.declared.world.World.{World}
 use Rattle.spec_run.specs.Done.{Call, Done, State, carried}
-use Rattle.spec_run.specs.Leaves.{called, row_of}
+use Rattle.spec_run.specs.Leaves.{called}
 use Rattle.spec_run.specs.Run.{RunState, Runner, root_told, root_view, runner_at, settled, state_of, tick_step, ticked, told, with_runner}
 use Rattle.spec_run.specs.Sites.{View}
 use Rattle.spec_run.specs.Visit.{change, meaning}
-use Rattle.spec_world.specs.Worlds.{IsComparisonIn, IsValidWorld, ids_of_rows, is_comparison}
+use Rattle.spec_world.specs.Worlds.{IsValidWorld}
 use Rattle.spec_plan.specs.declared.part.Part.TheVariants.{Goals}
 use Rattle.spec_plan.specs.declared.places.Place.{Place}
-use Rattle.spec_plan.specs.declared.verdict.Verdict.{Verdict}
-use Rattle.spec_plan.specs.declared.verdict.Verdict.TheVariants.{Reaches, Fails, GoesOn}
+use Rattle.spec_plan.specs.declared.verdict.Verdict.TheVariants.{Fails}
 use Rattle.spec_plan.specs.Failing.{at_level, breadth_first, conditions, failed, has_failed, ids_of, is_failure_of, levels}
-use Rattle.spec_plan.specs.Forests.{AreApart, Forest, Empty, Tree, times}
+use Rattle.spec_plan.specs.Forests.{Forest, Empty, Tree, times}
 use Rattle.spec_plan.specs.Modelled.{decided, goals_hold, is_failed_root, modelled, next_tick, state_after, verdict_by}
-use Rattle.spec_plan.specs.Planned.{id_of, plain_node, terms_of}
 use Rattle.spec_plan.specs.declared.ending.End.{End}
 use Rattle.spec_plan.specs.declared.ending.End.TheVariants.{Reached, NoTemplate, NoOrder, Expansions, StillRunning, Faulted}
 use Rattle.spec_plan.specs.declared.ending.Limits.{Limits}

@@ -1,6 +1,6 @@
 -- How many bytes a planned tree is printed as.
-use Rattle.std.proofs.Common.{◌≡◌, inl, inr, ℕ, ◌+◌, ◌*◌, ◌≤◌, Bool, true, false, not, ◌&&◌, if◌then◌else◌, List, [], ◌∷◌, ◌++◌, length, map, Option, Some, None, refl, sym, ap, subst, ◌∙◌, arith, append_assoc, append-nil, length-append}
-use Rattle.std.specs.Prelude.{bytes_eq, codes, nat_le, slice_get}
+use Rattle.std.proofs.Common.{◌≡◌, inl, inr, ℕ, ◌+◌, ◌*◌, ◌≤◌, Bool, true, false, not, ◌&&◌, if◌then◌else◌, List, [], ◌∷◌, ◌++◌, length, map, Option, None, refl, sym, ap, subst, ◌∙◌, arith, append-nil, length-append}
+use Rattle.std.specs.Prelude.{bytes_eq, codes, nat_le}
 use Rattle.std.specs.List.{concat, flat_map}
 use Rattle.std.specs.Option.{option_map_or}
 use Rattle.std.proofs.lemmas.Bool.Decides.{nat_tests}
@@ -11,7 +11,7 @@ use Rattle.spec_script.proofs.Bools.{both}
 use Rattle.spec_script.specs.Identifiers.{is_identifier}
 use Rattle.spec_tree.specs.Limits.{most_name_bytes}
 use Rattle.spec_tree.specs.Names.{is_reserved}
-use Rattle.spec_tree.specs.PrintedTree.{Attribute, Lines, Printed, WrittenTree, attribute_if, attribute_text, deeper, element_lines, element_name, guard_attributes, indented, is_compact, node_attributes, opened_by, opening_text, port_attribute, printed, printed_node, root_attributes, script_attribute, tree_element, tree_lines, with_trees, written_below}
+use Rattle.spec_tree.specs.PrintedTree.{Attribute, Lines, Printed, WrittenTree, attribute_if, deeper, element_lines, element_name, guard_attributes, indented, is_compact, node_attributes, opened_by, opening_text, port_attribute, printed, printed_node, root_attributes, script_attribute, tree_element, tree_lines, with_trees, written_below}
 use Rattle.spec_tree.specs.declared.term.Kind.{Kind}
 use Rattle.spec_tree.specs.declared.term.Kind.TheVariants.{Leaf, ReactiveFallback, ReactiveSequence}
 use Rattle.spec_tree.specs.declared.term.Term.{Term, Term-F, fold-roll-Term, roll-Term}

@@ -1,6 +1,6 @@
 -- What holds of the rows of the goals, of what each action needs, and of each first untried template, holds of the rows of
 -- every tree of a plan run.
-use Rattle.std.proofs.Common.{◌≡◌, ℕ, zero, suc, ◌+◌, List, [], ◌∷◌, Some, refl, sym, subst}
+use Rattle.std.proofs.Common.{◌≡◌, ℕ, zero, suc, ◌+◌, List, [], ◌∷◌, Some, sym, subst}
 use Rattle.std.specs.Prelude.{slice_get}
 use Rattle.std.specs.List.{AllByRecursion}
 use Rattle.spec_world.specs.declared.world.World.{World}

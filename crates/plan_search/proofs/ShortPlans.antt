@@ -1,6 +1,6 @@
 -- What is written of a plan that reaches the goals is a file that is not too long.
-use Rattle.std.proofs.Common.{◌≡◌, inl, inr, ℕ, zero, suc, ◌+◌, ◌*◌, ◌-◌, ◌/◌, ◌%◌, ◌≤◌, ◌==◌, false, List, [], ◌∷◌, ◌++◌, length, map, Option, Some, None, refl, sym, ap, subst, ◌∙◌, arith, length-append}
-use Rattle.std.specs.Prelude.{codes, decimal, nat_le, slice_get}
+use Rattle.std.proofs.Common.{◌≡◌, inl, inr, ℕ, zero, suc, ◌+◌, ◌*◌, ◌-◌, ◌/◌, ◌%◌, ◌≤◌, ◌==◌, false, List, [], ◌∷◌, ◌++◌, length, map, Option, sym, ap, subst, arith, length-append}
+use Rattle.std.specs.Prelude.{decimal, nat_le}
 use Rattle.std.specs.Fmt.{digit_glyph, digits, digits_onto}
 use Rattle.std.specs.List.{concat}
 use Rattle.std.specs.Option.{option_map_or}
@@ -10,7 +10,7 @@ use Rattle.std.proofs.lemmas.List.{length-map}
 use Rattle.std.proofs.lemmas.Option.{slice_get_cases}
 use Rattle.spec_script.proofs.Bools.{both}
 use Rattle.spec_script.specs.Identifiers.{is_identifier}
-use Rattle.spec_tree.specs.Limits.{most_file_bytes, most_name_bytes}
+use Rattle.spec_tree.specs.Limits.{most_name_bytes}
 use Rattle.spec_tree.specs.PrintedTree.{tree_lines}
 use Rattle.spec_tree.specs.declared.term.Tree.{Tree as Planned}
 use Rattle.spec_world.specs.declared.world.Row.{Row}
@@ -22,15 +22,13 @@ use Rattle.spec_plan.specs.declared.ending.End.TheVariants.{Reached, NoTemplate,
 use Rattle.spec_plan.specs.declared.ending.Limits.{Limits}
 use Rattle.spec_plan.specs.declared.ending.PlanEnd.{PlanEnd}
 use Rattle.spec_plan.specs.declared.ending.Step.{Step}
-use Rattle.spec_plan.specs.declared.part.Part.{Part}
-use Rattle.spec_plan.specs.declared.part.Part.TheVariants.{Action, Condition, Goals}
+use Rattle.spec_plan.specs.declared.part.Part.TheVariants.{Action, Condition}
 use Rattle.spec_plan.specs.Achievers.{needs_of}
 use Rattle.spec_plan.specs.Expansion.{NewKeys, expanded, expanded_below, goal_tree, grown, leaves, new_sequence}
-use Rattle.spec_plan.specs.Forests.{Ancestor, Forest, Empty, Tree, ancestors, times}
+use Rattle.spec_plan.specs.Forests.{Ancestor, Forest, ancestors, times}
 use Rattle.spec_plan.specs.Planned.{id_of}
 use Rattle.spec_plan.specs.PlanLines.{end_line, step_line}
 use Rattle.spec_plan.specs.PlanRuns.{Ends, IsFirst, IsStep, Lead, PlanRun, Trial, tree_of}
-use Rattle.spec_plan.specs.Raising.{raised}
 use Rattle.spec_plan.specs.Settling.{AreRaises}
 use Rattle.plan_tree.specs.Sizes.{height}
 use Rattle.plan_tree.proofs.Counted.{height-changed, height-grown, height-leaves, one_of}

@@ -1,5 +1,5 @@
 -- How many bytes a plan tree is printed as, at most: each node's, by its level and by whether something stands below it.
-use Rattle.std.proofs.Common.{◌≡◌, inl, inr, ℕ, zero, suc, ◌+◌, ◌*◌, ◌-◌, ◌≤◌, ◌==◌, nat_eq, List, [], ◌∷◌, ◌++◌, length, map, max, Some, refl, sym, ap, subst, ◌∙◌, arith}
+use Rattle.std.proofs.Common.{◌≡◌, inl, inr, ℕ, zero, suc, ◌+◌, ◌*◌, ◌-◌, ◌≤◌, ◌==◌, List, [], ◌∷◌, length, map, Some, refl, sym, ap, subst, ◌∙◌, arith}
 use Rattle.std.proofs.lemmas.Bool.{cond_both}
 use Rattle.spec_world.specs.declared.world.Row.{Row}
 use Rattle.spec_plan.specs.declared.part.Part.{Part}
@@ -8,7 +8,7 @@ use Rattle.spec_plan.specs.Expansion.{NewKeys, expanded, expanded_below, goal_tr
 use Rattle.spec_plan.specs.Forests.{Forest, Empty, Tree, Ancestor, ancestors, changed_below, count, joined, part_at, times}
 use Rattle.spec_plan.specs.Raising.{moved_in, swap_at}
 use Rattle.plan_tree.specs.Sizes.{height}
-use Rattle.plan_tree.proofs.Counted.{changed_here, changed_other, is_other, is_same, one_other, one_same, only_here, tested, unchanged, zero_or}
+use Rattle.plan_tree.proofs.Counted.{changed_here, changed_other, is_same, tested, unchanged, zero_or}
 use Rattle.plan_reorder.proofs.Swaps.{height-swap}
 use Rattle.plan_search.proofs.Conditions.{below_part, own_part, rest_part}
 

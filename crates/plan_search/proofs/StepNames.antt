@@ -1,5 +1,5 @@
 -- The steps of a plan run name rows.
-use Rattle.std.proofs.Common.{◌≡◌, ℕ, ◌+◌, true, List, [], ◌∷◌, sym, ap, ◌∙◌}
+use Rattle.std.proofs.Common.{ℕ, ◌+◌, List, [], ◌∷◌, ap, ◌∙◌}
 use Rattle.std.specs.List.{AllByRecursion, list_all}
 use Rattle.spec_script.specs.Identifiers.{is_identifier_continue}
 use Rattle.spec_world.specs.declared.world.World.{World}

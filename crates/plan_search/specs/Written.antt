@@ -1,5 +1,5 @@
 -- What is written of a plan that reaches the goals.
-use Rattle.std.specs.Prelude.{ℕ, ◌≤◌, List, ◌++◌, length, map}
+use Rattle.std.specs.Prelude.{◌≤◌, List, ◌++◌, length, map}
 use Rattle.std.specs.List.{concat}
 use Rattle.spec_tree.specs.Limits.{most_file_bytes}
 use Rattle.spec_tree.specs.PrintedTree.{tree_lines}

@@ -1,5 +1,5 @@
 -- The bytes of a printed tree with comments before it spell the tree's element.
-use Rattle.std.proofs.Common.{◌≡◌, ℕ, ◌+◌, ◌≤◌, true, false, List, [], ◌∷◌, ◌++◌, map, length, drop, refl, ap, sym, ◌∙◌, subst, append_assoc, append-nil, arith, length-append, codes, Option, None, Ok}
+use Rattle.std.proofs.Common.{◌≡◌, ℕ, ◌+◌, ◌≤◌, true, false, List, [], ◌∷◌, ◌++◌, map, length, drop, refl, ap, sym, ◌∙◌, subst, append_assoc, append-nil, arith, length-append, codes, None, Ok}
 use Rattle.std.proofs.lemmas.Grind.{flat_map-append}
 use Rattle.std.proofs.lemmas.Str.{IsUtf8-append, IsUtf8-nil}
 use Rattle.std.specs.List.{concat, list_all, AllByRecursion}
@@ -7,7 +7,7 @@ use Rattle.std.specs.Str.{IsUtf8}
 use Rattle.spec_script.specs.Identifiers.{is_white}
 use Rattle.spec_tree_file.specs.declared.element.Element.{Element}
 use Rattle.spec_tree_file.specs.Elements.{HaveTags, IsPiece, Piece, Spells, Tag, depth_of, inside_before, order_mark_len, piece_written, pieces_written, is_text_byte, tags_of}
-use Rattle.spec_tree_file.specs.Marks.{Comment, mark_written}
+use Rattle.spec_tree_file.specs.Marks.{Comment}
 use Rattle.spec_tree_file.specs.Models.{manifest_in}
 use Rattle.spec_tree_file.specs.Reads.{reads}
 use Rattle.spec_tree.specs.PrintedTree.{tree_lines}
