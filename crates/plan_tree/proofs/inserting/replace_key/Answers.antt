@@ -1,7 +1,7 @@
 use Rattle.std.proofs.Common.{◌≡◌, ◌==◌, ◌-◌, ℕ, ◌∙◌, ap, sym, arith, slice_set}
 use Rattle.std.proofs.lemmas.Iterator.Adapters.{position_from-zero}
 use Rattle.plan_tree.proofs.NewNodes.{not_replaced_from, replaced_from}
-use Rattle.plan_tree.proofs.growing.replace_key.Goals as goal
+use Rattle.plan_tree.proofs.inserting.replace_key.Goals as goal
 
 pub returns-in-Some : goal.returns-in-Some
 returns-in-Some c =

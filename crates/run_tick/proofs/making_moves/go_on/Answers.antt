@@ -10,7 +10,7 @@ use Rattle.run_tick.proofs.Bounds.{child_small, work_turned}
 use Rattle.run_tick.proofs.Children.{child_found, child_there}
 use Rattle.run_tick.proofs.Moving.{as_many_kept, children_stand, here_fits, here_kind, here_ruled, here_takes, next_with, node_there, step_given, step_stopped, step_turned, visit_there}
 use Rattle.run_tick.proofs.Later.{EndsBy}
-use Rattle.run_tick.proofs.onward.go_on.Goals as goal
+use Rattle.run_tick.proofs.making_moves.go_on.Goals as goal
 
 pub node-here-requires : goal.node-here-requires
 node-here-requires g c = let (term, view, next, by) = c.requires.can in node_there by.can.fits

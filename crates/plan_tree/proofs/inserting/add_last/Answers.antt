@@ -1,7 +1,7 @@
 use Rattle.std.proofs.Common.{◌++◌, ◌∷◌, [], List, ℕ, ap, ◌∙◌, subst, Some}
 use Rattle.plan_tree.specs.Growth.{Edits, branch_tree, parts_of}
 use Rattle.plan_tree.proofs.NewNodes.{adds_from}
-use Rattle.plan_tree.proofs.growing.add_last.Goals as goal
+use Rattle.plan_tree.proofs.inserting.add_last.Goals as goal
 
 pub returns-clause-added : goal.returns-clause-added
 returns-clause-added c =

@@ -5,7 +5,7 @@ use Rattle.run_tick.specs.Turns.{step_of}
 use Rattle.run_tick.proofs.Bounds.{child_small, work_turned}
 use Rattle.run_tick.proofs.Children.{child_found}
 use Rattle.run_tick.proofs.Moving.{here_fits, here_kind, here_takes, next_child, node_there, none_reset, step_turned, visit_there, visits_all}
-use Rattle.run_tick.proofs.onward.goes_on_at_once.Goals as goal
+use Rattle.run_tick.proofs.making_moves.goes_on_at_once.Goals as goal
 
 pub node-here-requires : goal.node-here-requires
 node-here-requires g c = let (term, view, next, by) = c.requires.can in node_there by.can.fits

@@ -1,7 +1,7 @@
 use Rattle.spec_plan.specs.Expansion.{leaves}
 use Rattle.plan_tree.specs.Growth.{parts_of}
 use Rattle.plan_tree.proofs.NewNodes.{adds_branch}
-use Rattle.plan_tree.proofs.growing.add_branch.Goals as goal
+use Rattle.plan_tree.proofs.inserting.add_branch.Goals as goal
 
 pub returns-clause-added : goal.returns-clause-added
 returns-clause-added c =

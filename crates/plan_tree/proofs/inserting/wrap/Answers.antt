@@ -2,7 +2,7 @@ use Rattle.std.proofs.Common.{List, ℕ, subst, Some}
 use Rattle.spec_plan.specs.declared.part.Part.TheVariants.{Fallback}
 use Rattle.plan_tree.specs.Growth.{Edits, blank}
 use Rattle.plan_tree.proofs.NewNodes.{adds_node_from}
-use Rattle.plan_tree.proofs.growing.wrap.Goals as goal
+use Rattle.plan_tree.proofs.inserting.wrap.Goals as goal
 
 pub returns-clause-added : goal.returns-clause-added
 returns-clause-added c = record {

@@ -12,8 +12,8 @@ ghost use Rattle.run_nodes.specs.Halting.Halts.{resets_on};
 ghost use Rattle.run_tick.specs.Machine as turn;
 ghost use Rattle.run_tick.specs.Turns.{CanMoveOn, EntersChild, StepsOn, TakesTurn, goes_at_once, kind_of, passes_over, step_of, turn_of, turn_with, turn_work};
 
-use crate::machine::Next;
-use crate::moves::{child_at_once, is_completed, next_move};
+use crate::next_moves::{child_at_once, is_completed, next_move};
+use crate::progress::Next;
 use base_texts::Stop;
 use run_arena::{Frame, Node, Stage, node};
 use run_driver::Drivers;

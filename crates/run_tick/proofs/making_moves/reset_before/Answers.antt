@@ -1,6 +1,6 @@
 use Rattle.run_tick.proofs.Held.{marked_below}
 use Rattle.run_tick.proofs.Moving.{none_reset}
-use Rattle.run_tick.proofs.onward.reset_before.Goals as goal
+use Rattle.run_tick.proofs.making_moves.reset_before.Goals as goal
 
 pub returns-in-None-clause-meets : goal.returns-in-None-clause-meets
 returns-in-None-clause-meets g c = λ term view can. none_reset _ _ term view _ _ _ _ c.in-None.is

@@ -2,7 +2,7 @@ use Rattle.std.proofs.Common.{◌≡◌, Some, length, map, take}
 use Rattle.spec_plan.specs.declared.part.Part.TheVariants.{Condition}
 use Rattle.spec_plan.specs.Expansion.{leaves}
 use Rattle.plan_tree.specs.Growth.{Adds}
-use Rattle.plan_tree.proofs.growing.add_conditions.Given as goal
+use Rattle.plan_tree.proofs.inserting.add_conditions.Given as goal
 
 abbrev pub invariant-loop-row : goal.invariant-loop-row
 invariant-loop-row l = record {

@@ -4,7 +4,7 @@ use Rattle.spec_plan.specs.declared.part.Part.TheVariants.{Condition}
 use Rattle.spec_plan.specs.Expansion.{leaves}
 use Rattle.plan_tree.specs.Growth.{Adds}
 use Rattle.plan_tree.proofs.NewNodes.{adds_next, adds_none, size-leaves_all, taken_condition, taken_count}
-use Rattle.plan_tree.proofs.growing.add_conditions.Goals as goal
+use Rattle.plan_tree.proofs.inserting.add_conditions.Goals as goal
 
 pub loop-row-init : goal.loop-row-init
 loop-row-init c = record {

@@ -3,7 +3,7 @@ use Rattle.std.proofs.lemmas.List.{length-append, length-map}
 use Rattle.spec_plan.specs.declared.part.Part.TheVariants.{Action, Condition}
 use Rattle.plan_tree.specs.Growth.{parts_of}
 use Rattle.plan_tree.proofs.NewNodes.{adds_next, parts_count, parts_with, size-leaves_all}
-use Rattle.plan_tree.proofs.growing.add_leaves.Goals as goal
+use Rattle.plan_tree.proofs.inserting.add_leaves.Goals as goal
 
 pub add_leaf-requires-clause-room : goal.add_leaf-requires-clause-room
 add_leaf-requires-clause-room c =
