@@ -4,6 +4,7 @@
 
 mod arena;
 mod block;
+mod book;
 mod frame;
 mod joining;
 pub mod laws;
