@@ -2,7 +2,12 @@
 //! what the command finds and leaves.
 
 ghost use Rattle.std.specs.Prelude.{ℕ, ◌≡◌, ◌⊎◌, List, None, Option, Some};
+ghost use Rattle.plan_search.specs.Lacking.{NamesSome};
+ghost use Rattle.spec_plan.specs.declared.ending.Limits.{Limits};
 ghost use Rattle.spec_plan.specs.Modelled.{modelled_run};
+ghost use Rattle.spec_program.specs.Output.{Output};
+ghost use Rattle.spec_program.specs.PlanOutputs.{IsPlanned};
+ghost use Rattle.spec_run.specs.Drivers.{DriverState};
 ghost use Rattle.spec_run.specs.Run.{run_over};
 ghost use Rattle.spec_tree.specs.declared.term.Tree.{Tree};
 ghost use Rattle.spec_world.specs.declared.world.World.{World};
@@ -20,7 +25,7 @@ ghost use Rattle.spec_program.specs.Refused.{words_refused};
 
 use base_outside::Shelf;
 use expect_reader::laws::expectations_read_one_way;
-use plan_search::laws::{plan_cuts_begin_within, plans_run_one_way};
+use plan_search::laws::{plan_cuts_begin_within, plans_name_what_failed, plans_run_one_way};
 use tree_elements::{element_or_fault, one_element};
 use world_reader::laws::worlds_read_one_way;
 
@@ -100,4 +105,13 @@ pub fn plans_run_as_they_stand()
     worlds_read_one_way();
     expectations_read_one_way();
     plans_run_one_way();
+}
+
+/// By the definition of the output: a plan that is printed and ends without a template names at least one condition that
+/// failed.
+pub fn printed_plans_name_what_failed()
+    ensures { (world : World) (limits : Limits) (drivers : List DriverState) (output : Output)
+        (p : IsPlanned world limits drivers output) → NamesSome p.planned.end }
+{
+    plans_name_what_failed();
 }
