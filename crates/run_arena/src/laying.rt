@@ -17,6 +17,7 @@ use crate::resolving::Setting;
 use crate::scripts::give_scripts;
 use crate::source::Source;
 use crate::uids::Uids;
+use base_tables::nodes_in;
 use base_texts::{Items, NoMemory, Shared};
 use run_driver::Drivers;
 use spec_tree::{Kind, Term};
