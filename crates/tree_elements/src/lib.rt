@@ -7,6 +7,7 @@ mod nest;
 mod read;
 mod reference;
 mod scan;
+mod spread;
 
 pub use laws::{element_or_fault, one_element, spelled_elements_can_be_written};
 pub use read::read_elements;

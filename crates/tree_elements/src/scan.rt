@@ -9,11 +9,13 @@ ghost use Rattle.tree_elements.specs.Reading.{Scans, after_white, begins, follow
 
 use crate::mark::{Front, Mark, NoMark};
 use crate::reference::decode;
+use crate::spread::are_spread;
 use base_texts::{Items, Name, NoMemory, Stop};
 use indexmap::IndexSet;
 use memchr::{memchr2, memchr3};
 use script_reader::{is_identifier_start, is_white};
 use std::alloc::Global;
+use std::collections::BTreeSet;
 
 /// Whether a name may begin with the byte.
 fn name_first(c: u8) -> bool
@@ -265,13 +267,10 @@ fn few_single_names(attributes: &[(Name, Name)]) -> bool
 /// Up to so many attributes it costs least to compare each name with all that come after it.
 const FEW_NAMES: usize = 8;
 
-/// Whether no attribute's name occurs twice. `NoMemory` where an allocation fails.
-pub fn single_names(alloc: Global, attributes: &[(Name, Name)]) -> Result<bool, NoMemory>
+/// Whether no name of many attributes occurs twice, by a table of their hashes.
+fn single_by_hashes(alloc: Global, attributes: &[(Name, Name)]) -> Result<bool, NoMemory>
     ensures { IfOk result (λ single. single ≡ no_name_twice attributes.now) }
 {
-    if attributes.len() <= FEW_NAMES {
-        return Ok(few_single_names(attributes));
-    }
     let mut names = IndexSet::with_capacity(alloc, attributes.len())?;
     for (name, _) in attributes {
         if !names.insert(name.list())? {
@@ -279,6 +278,33 @@ pub fn single_names(alloc: Global, attributes: &[(Name, Name)]) -> Result<bool, 
         }
     }
     Ok(true)
+}
+
+/// Whether no name of many attributes occurs twice, by the order of their bytes.
+fn single_by_order(alloc: Global, attributes: &[(Name, Name)]) -> Result<bool, NoMemory>
+    ensures { IfOk result (λ single. single ≡ no_name_twice attributes.now) }
+{
+    let mut ordered = BTreeSet::new(alloc);
+    for (name, _) in attributes {
+        if !ordered.insert(name.list())? {
+            return Ok(false);
+        }
+    }
+    Ok(true)
+}
+
+/// Whether no attribute's name occurs twice. `NoMemory` where an allocation fails.
+pub fn single_names(alloc: Global, attributes: &[(Name, Name)]) -> Result<bool, NoMemory>
+    ensures { IfOk result (λ single. single ≡ no_name_twice attributes.now) }
+{
+    if attributes.len() <= FEW_NAMES {
+        return Ok(few_single_names(attributes));
+    }
+    if are_spread(attributes) {
+        single_by_hashes(alloc, attributes)
+    } else {
+        single_by_order(alloc, attributes)
+    }
 }
 
 /// A start mark or an empty mark after its `<`, up to its end, and what follows.

@@ -3,7 +3,7 @@ use Rattle.std.specs.List.{list_any}
 use Rattle.std.specs.Str.{bytes_eq}
 use Rattle.spec_tree_file.specs.Marks.{no_name_twice}
 use Rattle.tree_elements.proofs.Names.{has_name}
-use Rattle.tree_elements.proofs.scan.single_names.Given as goal
+use Rattle.tree_elements.proofs.scan.single_by_hashes.Given as goal
 
 abbrev pub invariant-loop-name : goal.invariant-loop-name
 invariant-loop-name l = record {
