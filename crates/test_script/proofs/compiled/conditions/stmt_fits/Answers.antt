@@ -1,4 +1,4 @@
-use Rattle.std.proofs.Common.{rules, ◌≡◌, ◌≤◌, List, ℕ, IsTrue, refl, sym, subst}
+use Rattle.std.proofs.Common.{rules, ◌≡◌, ◌≤◌, List, [], ℕ, IsTrue, refl, sym, subst}
 use Rattle.spec_script.specs.declared.syntax.BinOp.{BinOp}
 use Rattle.spec_script.specs.declared.syntax.Expr.{Expr}
 use Rattle.spec_script.specs.declared.syntax.Stmt.{Stmt}
@@ -28,4 +28,4 @@ pub returns-in-Assign : goal.returns-in-Assign
 returns-in-Assign c = λ yes. assign_fits c.args.stmt.now _ c.in-Assign.e (c.expr_fits-in-Assign.ensures.low yes) c.in-Assign.is
 
 pub returns-in-Plain : goal.returns-in-Plain
-returns-in-Plain c = λ yes. plain_fits c.args.stmt.now _ c.in-Plain.e (c.expr_fits-in-Plain.ensures.low yes) c.in-Plain.is
+returns-in-Plain c = λ yes. plain_fits c.args.stmt.now [] c.in-Plain.e (c.expr_fits-in-Plain.ensures.low yes) c.in-Plain.is
