@@ -63,12 +63,16 @@ fn takes(fails: &[(u64, u64)], call: u64) -> Option<u64>
 
 impl Sink for MemSink {
     ghost use Rattle.std.specs.Prelude.{Some};
+    ghost use Rattle.base_outside.specs.declared.sink.SinkFault.TheVariants as fault;
 
     ghost written = { λ s. Some s.written };
 
     ghost handed = { λ s. Some s.written };
 
     ghost faults = { λ s. s.faults };
+
+    ghost write_gives = { λ old piece answer new. (¬ IsErrOf answer fault.NoMemory → new ≡ after_write old piece)
+        × (IsErrOf answer fault.NoMemory → new ≡ record old { calls = next old.calls }) };
 
     fn write(&mut self, piece: &[u8]) -> Result<(), SinkFault>
         ensures whole { OnOk result (Appended (Some self.old.written) (Some self.new.written) piece.now) }

@@ -132,6 +132,8 @@ impl<W: Write + Drop> Sink for OutSink<W> {
 
     ghost faults = { λ s. s.faults };
 
+    ghost write_gives = { λ old piece answer new. OnOk answer (Appended (written_by old) (written_by new) piece) };
+
     /// Writes the piece. Most pieces have room beside what is gathered, and are taken at once.
     #[inline]
     fn write(&mut self, piece: &[u8]) -> Result<(), SinkFault>

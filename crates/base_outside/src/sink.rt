@@ -1,7 +1,8 @@
-ghost use Rattle.std.specs.Prelude.{◌≡◌, ◌≤◌, ℕ, List, Option, OnOk, IsErrOf};
+ghost use Rattle.std.specs.Prelude.{◌≡◌, ◌≤◌, ℕ, List, Option, Result, OnOk, IsErrOf};
 ghost use Rattle.std.specs.Io.KnownBytes.{Keeps};
 ghost use Rattle.spec_outside.specs.Appending.{Appended, AppendedPrefix};
 ghost use Rattle.spec_outside.specs.Counts.{Rose};
+ghost use Rattle.base_outside.specs.declared.sink.SinkFault.{SinkFault};
 
 /// Why a write failed.
 #[derive(Clone, Copy, Debug, PartialEq, Eq)]
@@ -23,9 +24,13 @@ pub trait Sink {
     /// The count of failures. It never falls.
     ghost faults: { Self → ℕ };
 
+    /// A write of this piece gives this answer, and leads from the first state to the second.
+    ghost write_gives: { Self → List ℕ → Result (Unit {0}) SinkFault → Self → Type 0 };
+
     /// Writes the piece after what was written before. At every return some prefix of the piece
     /// was written. `SinkFault::Failed` comes only where the count of failures rose in this call.
     fn write(&mut self, piece: &[u8]) -> Result<(), SinkFault>
+        ensures gives { write_gives self.old piece.now result self.new }
         ensures whole { OnOk result (Appended (written self.old) (written self.new) piece.now) }
         ensures prefix { AppendedPrefix (written self.old) (written self.new) piece.now }
         ensures failed { IsErrOf result SinkFault.Failed → Rose (faults self.old) (faults self.new) }

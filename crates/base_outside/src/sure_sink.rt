@@ -46,6 +46,8 @@ impl Sink for SureSink {
 
     ghost faults = { λ _. 0 };
 
+    ghost write_gives = { λ old piece answer new. OnOk answer (new ≡ old ++ piece) };
+
     fn write(&mut self, piece: &[u8]) -> Result<(), SinkFault>
         ensures whole { OnOk result (self.new ≡ self.old ++ piece.now) }
         ensures sure { ¬ IsErrOf result SinkFault.Failed }
