@@ -20,7 +20,7 @@ use Rattle.spec_tree.specs.declared.term.Kind.{Kind}
 use Rattle.spec_tree.specs.declared.term.Kind.TheVariants.{Sequence, SequenceWithMemory, ReactiveSequence, Fallback, ReactiveFallback, Parallel, Switch, IfThenElse, WhileDoElse, RecoveryNode, PipelineSequence, RoundRobin, Inverter, ForceSuccess, ForceFailure, KeepRunningUntilFailure, Retry, Repeat, Timeout, Delay, RunOnce, RateController, SubTree}
 use Rattle.spec_run.specs.Rules.Answers.{pass_on}
 use Rattle.spec_run.specs.Rules.Choices.{chosen_of, if_then_else_after, while_do_else_after}
-use Rattle.spec_run.specs.Rules.Decorators.{as_it_is, forced, inverted, keep_running_after, run_once_after}
+use Rattle.spec_run.specs.Rules.OneVisit.{as_it_is, forced, inverted, keep_running_after, run_once_after}
 use Rattle.spec_run.specs.Rules.Kinds.{rule}
 use Rattle.spec_run.specs.Rules.Parallels.{counted, counts_of, parallel, parallel_after}
 use Rattle.spec_run.specs.Rules.Pipelines.{pipeline, pipeline_after}

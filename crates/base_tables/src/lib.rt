@@ -6,6 +6,7 @@ mod built_ins;
 mod limits;
 mod names;
 mod numbers;
+mod terms;
 
 pub use built_ins::{
     PortRule, class_of, has_code, has_rule, int_fits, int_rate, is_control, kind_named, ports_of,
@@ -19,3 +20,4 @@ pub use limits::{
 };
 pub use names::is_reserved;
 pub use numbers::{canonical_int, int, is_canonical};
+pub use terms::nodes_in;

@@ -43,7 +43,8 @@ fn named<'a>(
     rules: Option<&'a Name>,
     expect: Option<&'a Name>,
 ) -> NamedFiles<'a>
-    ensures { names_seen result ≡ named (option_copied tree.entry) (option_copied world.entry) (option_copied rules.entry) (option_copied expect.entry) }
+    ensures { names_seen result
+        ≡ named (option_copied tree.entry) (option_copied world.entry) (option_copied rules.entry) (option_copied expect.entry) }
 {
     NamedFiles {
         tree,

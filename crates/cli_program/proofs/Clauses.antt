@@ -1,5 +1,5 @@
 -- The clauses of `bt`, one by one, by what its words were answered.
-use Rattle.std.proofs.Common.{◌≡◌, ℕ, nat_eq, if◌then◌else◌, List, [], ◌∷◌, ◌++◌, map, Bool, true, false, ◌⊎◌, inl, inr, Option, Some, None, refl, sym, ap, subst, ◌∙◌, MatchBool, Result, Ok, Err}
+use Rattle.std.proofs.Common.{◌≡◌, ℕ, nat_eq, if◌then◌else◌, List, [], ◌∷◌, ◌++◌, map, Bool, true, false, ◌⊎◌, inl, inr, Option, Some, None, IfSome, refl, sym, ap, subst, ◌∙◌, MatchBool, Result, Ok, Err}
 use Rattle.spec_tree_file.specs.declared.element.Element.{Element}
 use Rattle.spec_tree_file.specs.declared.element.ElementFault.{ElementFault}
 use Rattle.spec_tree_file.specs.Elements.{Spells}
@@ -14,6 +14,9 @@ use Rattle.spec_program.specs.declared.tree_fault.TreeFault.TheVariants as fault
 use Rattle.spec_program.specs.Answers.{Answers, AtMoments, DriversLeft, DriversWithin, Gave, IfTold, IsWhole, Side}
 use Rattle.spec_program.specs.Answered.{AreTold, ReadFailed, ToldIfNamed}
 use Rattle.cli_commands.specs.Answering.{CommandAnswered, FilesAnswered}
+use Rattle.cli_answers.proofs.AboutPlanning.Plans.{all_served}
+use Rattle.cli_program.proofs.PlanFiles.{PlanLaws, file_reads, tree_joins}
+use Rattle.cli_program.proofs.Ranges.{IsInRange}
 use Rattle.cli_program.proofs.Begun.{CutLaw, files_unasked, gave_unasked, gave_within, ran_out_gave, uncalled_is_within, unread_called_none, unread_unasked}
 use Rattle.spec_program.specs.Headline.{EachOutput, IsGiven, IsGroundOf, IsScriptOf, PlanReaches, ReachesIfPlan, WholeOutput, moments_for}
 use Rattle.cli_program.specs.LawWords.{IsNotLive, UnreadLine}
@@ -26,16 +29,12 @@ use Rattle.spec_plan.specs.declared.ending.PlanEnd.{PlanEnd}
 use Rattle.spec_plan.specs.declared.ending.Step.{Step}
 use Rattle.spec_plan.specs.PlanAnswers.{IsPlan, StandsAlone}
 use Rattle.spec_plan.specs.PlanLines.{end_line, step_line}
-use Rattle.plan_search.specs.Reached.{IsReached}
-use Rattle.spec_plan.specs.PlanRuns.{PlanRun, Trial}
+use Rattle.plan_search.specs.Joining.{IsNamedPlainly, JoinsWorld}
+use Rattle.plan_search.specs.Reached.{AreInRange, IsReached}
+use Rattle.plan_search.specs.Written.{IsShort}
 use Rattle.spec_output.specs.NoNames.{no_names}
-use Rattle.spec_tree_file.specs.Models.{manifest_in}
-use Rattle.spec_tree_file.specs.Reads.{reads}
-use Rattle.spec_tree.specs.PrintedTree.{tree_lines}
-use Rattle.spec_tree.specs.Terms.{scope_count}
-use Rattle.spec_tree.specs.Trees.{IsValid}
 use Rattle.spec_world.specs.Worlds.{IsValidWorld}
-use Rattle.std.specs.List.{concat}
+use Rattle.std.specs.List.{AllByRecursion, concat}
 use Rattle.spec_program.specs.Files.{Contents, Named, world_alone}
 use Rattle.spec_world_file.specs.declared.ground_fault.GroundFault.{GroundFault}
 use Rattle.spec_world_file.specs.GroundFile.{Grounded, MakesWorld, reads_ground, world_from}
@@ -57,7 +56,7 @@ use Rattle.spec_program.specs.Gives.{Beginning, Giving, MadeGives, MockGives, Or
 use Rattle.spec_program.specs.Courses.{Given, given, joined_output, run_exit}
 use Rattle.spec_run.specs.Joins.{lack_of}
 use Rattle.spec_program.specs.Refused.{ground_refused, join_refused, no_goal, too_long, tree_refused, unread, words_refused, world_refused}
-use Rattle.spec_program.specs.TreeFiles.{TreeReads, built, element_read, with_models}
+use Rattle.spec_program.specs.TreeFiles.{TreeReads, element_read}
 use Rattle.spec_program.specs.Words.{Command, Tick, Live, Load, Check, Dead, Exclusive, Plan, Mock, MockPrint, Ground, GroundPlan, Expect}
 use Rattle.spec_program.specs.declared.file.File.{File}
 use Rattle.spec_program.specs.declared.file.File.TheVariants as file
@@ -110,7 +109,7 @@ one_read : OneReading → (main : Option (List ℕ)) (stands : Standing) (tree w
 one_read one main stands tree world g x y p q =
     one_reading one q.0 stands world g x y (subst (λ (r : Result Tree TreeFault). TreeGives r stands world g x) (one_tree one main tree p.0 q.0 p.1 q.1) p.2) q.2
 
-one_run : OneReading → (main : Option (List ℕ)) (tree world : List ℕ) (g : Given) (x y : Output) → RunGives main tree world g x → RunGives main tree world g y → x ≡ y
+pub one_run : OneReading → (main : Option (List ℕ)) (tree world : List ℕ) (g : Given) (x y : Output) → RunGives main tree world g x → RunGives main tree world g y → x ≡ y
 one_run one main tree world g x y p q =
     one_if (is_too_long tree) x y (too_long file.Tree) _ _ p q (λ p1 q1. one_if (is_too_long world) x y (too_long file.World) _ _ p1 q1
     (λ p2 q2. one_read one main itself tree world g x y p2 q2))
@@ -656,18 +655,8 @@ module _ (c : Command) (result : Exit) (shelf : Type 0) (IsUnread : File → Typ
 
 -- ---- Plans
 
--- a plan that ends at the goals reaches them, and a valid tree without SubTree nodes is printed so that it reads as itself
-pub record PlanLaws : Type 0 where
-  pub reach : (world : World) (limits : Limits) (planned : PlanEnd) (trials : List Trial) (last : Trial) → PlanRun world limits planned trials last → IsReached world limits planned.end
-  pub read : (tree : Tree) → IsValid tree → scope_count tree.term ≡ 0 → (f : Element) × Spells (concat (tree_lines tree)) f × (manifest_in f ≡ Ok []) × (reads [] None f ≡ Ok tree)
-
 -- a plan was given whole, with Done, for a world that its file describes so
 module _ (laws : PlanLaws) (limits : Limits) (holds : Option (List ℕ → List ℕ)) (name : List ℕ) (Describes : List ℕ → World → Type 0) (a b : Side) where
-  reads_back : (tree : Tree) → IsValid tree → scope_count tree.term ≡ 0 → TreeReads None (concat (tree_lines tree)) (Ok tree)
-  reads_back tree valid alone =
-      let r = laws.read tree valid alone in
-      inl (r.0, r.1, sym (ap (with_models None r.0) r.2 ∙ ap built r.3))
-
   abbrev pub Reaches : Type 0
   Reaches = PlanReaches holds name Describes limits.period a b
 
@@ -677,8 +666,9 @@ module _ (laws : PlanLaws) (limits : Limits) (holds : Option (List ℕ → List 
 
   -- its end reaches the goals
   by_end : (script : List ℕ) (world : World) (steps : List Step) (end : End) → Tells script → Describes script world → IsReached world limits end → StandsAlone end
+      → AllByRecursion IsNamedPlainly steps → JoinsWorld world a.drivers end → IsShort steps end
       → plan_exit end ≡ exit.Done → Appended a.written b.written (concat (map step_line steps) ++ (end_line no_names end ++ concat (reached_lines end))) → Reaches
-  by_end script world steps (Reached tree tick) told described reached alone done written = record {
+  by_end script world steps (Reached tree tick) told described reached alone named joins short done written = record {
     file = script;
     told = told;
     world = world;
@@ -687,21 +677,26 @@ module _ (laws : PlanLaws) (limits : Limits) (holds : Option (List ℕ → List 
     tree = tree;
     tick = tick;
     printed = written;
-    reads_back = reads_back tree alone.0 alone.1;
+    short = short;
+    reads_back = file_reads laws steps tree tick named alone.0 alone.1;
+    joins = λ n. tree_joins world a.drivers tree tick limits.period n joins;
     reached = reached;
   }
-  by_end script world steps (NoTemplate failed) told described reached alone done written = cc
-  by_end script world steps (NoOrder action condition) told described reached alone done written = cc
-  by_end script world steps (Expansions n) told described reached alone done written = cc
-  by_end script world steps (StillRunning ticks) told described reached alone done written = cc
-  by_end script world steps (Faulted uid cause) told described reached alone done written = cc
+  by_end script world steps (NoTemplate failed) told described reached alone named joins short done written = cc
+  by_end script world steps (NoOrder action condition) told described reached alone named joins short done written = cc
+  by_end script world steps (Expansions n) told described reached alone named joins short done written = cc
+  by_end script world steps (StillRunning ticks) told described reached alone named joins short done written = cc
+  by_end script world steps (Faulted uid cause) told described reached alone named joins short done written = cc
 
-  pub by_plan : (goals : List ℕ) (lack : Option JoinFault) (script : List ℕ) (world : World) (o : Output) → Tells script → Describes script world
+  pub by_plan : AreInRange limits → (goals : List ℕ) (lack : Option JoinFault) (script : List ℕ) (world : World) (o : Output) → first_unserved a.drivers world.rows ≡ lack → Tells script → Describes script world
       → PlannedOr (refusal_for goals lack) world limits a.drivers o → o.exit ≡ exit.Done → Appended a.written b.written o.bytes → Reaches
-  by_plan [] lack script world o told described p done written = let e : exit.World ≡ exit.Done = sym (ap (λ (z : Output). z.exit) p) ∙ done in cc
-  by_plan (goal ∷ goals) (Some fault) script world o told described p done written = let e : exit.World ≡ exit.Done = sym (ap (λ (z : Output). z.exit) p) ∙ done in cc
-  by_plan (goal ∷ goals) None script world o told described p done written =
+  by_plan range [] lack script world o lacks told described p done written = let e : exit.World ≡ exit.Done = sym (ap (λ (z : Output). z.exit) p) ∙ done in cc
+  by_plan range (goal ∷ goals) (Some fault) script world o lacks told described p done written = let e : exit.World ≡ exit.Done = sym (ap (λ (z : Output). z.exit) p) ∙ done in cc
+  by_plan range (goal ∷ goals) None script world o lacks told described p done written =
+      let served = all_served a.drivers world.rows lacks in
       by_end script world p.planned.steps p.planned.end told described (laws.reach world limits p.planned p.run.trials p.run.last p.run.run) p.alone
+      (laws.named world limits p.planned p.run.trials p.run.last p.valid p.run.run) (laws.join world limits p.planned p.run.trials p.run.last a.drivers p.valid served p.run.run)
+      (laws.short world limits p.planned p.run.trials p.run.last p.valid range p.run.run)
       (sym (ap (λ (z : Output). z.exit) p.is) ∙ done) (subst (λ (z : Output). Appended a.written b.written z.bytes) p.is written)
 
   -- what is not a plan is no output at Done
@@ -728,10 +723,10 @@ module _ (laws : PlanLaws) (limits : Limits) (holds : Option (List ℕ → List 
       reached_by shelf IsUnread (inr f) = by_answer f.files f.answers.moments f.told.world f.answers.holds
 
 -- .. by a world script
-module _ (laws : PlanLaws) (limits : Limits) (holds : Option (List ℕ → List ℕ)) (name : List ℕ) (a b : Side) where
+module _ (laws : PlanLaws) (limits : Limits) (range : AreInRange limits) (holds : Option (List ℕ → List ℕ)) (name : List ℕ) (a b : Side) where
   by_world : (described : Result World WorldFault) (script : List ℕ) (o : Output) → Tells laws limits holds name IsScriptOf a b script → ReadsWorld script described → ReadPlans described limits a.drivers o
       → o.exit ≡ exit.Done → Appended a.written b.written o.bytes → Reaches laws limits holds name IsScriptOf a b
-  by_world (Ok world) script o told described p done written = by_plan laws limits holds name IsScriptOf a b world.goals (first_unserved a.drivers world.rows) script world o told described p done written
+  by_world (Ok world) script o told described p done written = by_plan laws limits holds name IsScriptOf a b range world.goals (first_unserved a.drivers world.rows) script world o refl told described p done written
   by_world (Err fault) script o told described p done written = not_done laws limits holds name IsScriptOf a b o (world_refused fault) refl p done
 
   pub reached_of : (shelf : Type 0) (IsUnread : File → Type 0) → ReadFailed shelf IsUnread exit.Done a b ⊎ FilesAnswered holds (world_alone name) (Plans limits) (Begins limits) exit.Done a b → Reaches laws limits holds name IsScriptOf a b
@@ -739,11 +734,11 @@ module _ (laws : PlanLaws) (limits : Limits) (holds : Option (List ℕ → List 
       (λ files moments o p. p) (λ script o told p done written. by_world p.0 script o told p.1 p.2 done written)
 
 -- .. by the script that a ground file stands for
-module _ (laws : PlanLaws) (limits : Limits) (holds : Option (List ℕ → List ℕ)) (name : List ℕ) (a b : Side) where
+module _ (laws : PlanLaws) (limits : Limits) (range : AreInRange limits) (holds : Option (List ℕ → List ℕ)) (name : List ℕ) (a b : Side) where
   by_said : (g : Grounded) (read : Result World WorldFault) (said : Result World GroundFault) (script : List ℕ) (o : Output) → said ≡ world_from g.origins read → Tells laws limits holds name IsGroundOf a b script → reads_ground script ≡ Ok g
       → ReadsWorld g.text read → SaidPlans said limits a.drivers o → o.exit ≡ exit.Done → Appended a.written b.written o.bytes → Reaches laws limits holds name IsGroundOf a b
   by_said g (Ok world) said script o is told grounded described p done written =
-      by_plan laws limits holds name IsGroundOf a b world.goals (first_unserved a.drivers world.rows) script world o told (g, grounded, described)
+      by_plan laws limits holds name IsGroundOf a b range world.goals (first_unserved a.drivers world.rows) script world o refl told (g, grounded, described)
       (subst (λ (r : Result World GroundFault). SaidPlans r limits a.drivers o) is p) done written
   by_said g (Err fault) said script o is told grounded described p done written =
       not_done laws limits holds name IsGroundOf a b o _ refl (subst (λ (r : Result World GroundFault). SaidPlans r limits a.drivers o) is p) done
@@ -787,23 +782,23 @@ module _ (holds : Option (List ℕ → List ℕ)) (result : Exit) (shelf : Type 
   unasked_of None gave other = gave_unasked words_refused result a b refl gave
   unasked_of (Some c) answered other = unasked_clause c result shelf IsUnread a b holds other answered
 
-  planned_done : PlanLaws → (command : Option Command) → CommandAnswered command holds shelf IsUnread exit.Done a b → ReachesIfPlan command holds a b
-  planned_done laws None answered = tt
-  planned_done laws (Some (Tick t w main)) answered = tt
-  planned_done laws (Some (Live t w rounds main)) answered = tt
-  planned_done laws (Some (Load leaves)) answered = tt
-  planned_done laws (Some (Check t main)) answered = tt
-  planned_done laws (Some (Dead t main)) answered = tt
-  planned_done laws (Some (Exclusive t ids main)) answered = tt
-  planned_done laws (Some (Mock t w rules main)) answered = tt
-  planned_done laws (Some (MockPrint t rules main)) answered = tt
-  planned_done laws (Some (Expect t w e main)) answered = tt
-  planned_done laws (Some (Ground w)) answered = tt
-  planned_done laws (Some (GroundPlan w expand ticks period)) answered = ground_reached_of laws (limits_of expand ticks period) holds w a b shelf IsUnread answered
-  planned_done laws (Some (Plan w expand ticks period)) answered = reached_of laws (limits_of expand ticks period) holds w a b shelf IsUnread answered
+  planned_done : PlanLaws → (command : Option Command) → IfSome command IsInRange → CommandAnswered command holds shelf IsUnread exit.Done a b → ReachesIfPlan command holds a b
+  planned_done laws None range answered = tt
+  planned_done laws (Some (Tick t w main)) range answered = tt
+  planned_done laws (Some (Live t w rounds main)) range answered = tt
+  planned_done laws (Some (Load leaves)) range answered = tt
+  planned_done laws (Some (Check t main)) range answered = tt
+  planned_done laws (Some (Dead t main)) range answered = tt
+  planned_done laws (Some (Exclusive t ids main)) range answered = tt
+  planned_done laws (Some (Mock t w rules main)) range answered = tt
+  planned_done laws (Some (MockPrint t rules main)) range answered = tt
+  planned_done laws (Some (Expect t w e main)) range answered = tt
+  planned_done laws (Some (Ground w)) range answered = tt
+  planned_done laws (Some (GroundPlan w expand ticks period)) range answered = ground_reached_of laws (limits_of expand ticks period) range holds w a b shelf IsUnread answered
+  planned_done laws (Some (Plan w expand ticks period)) range answered = reached_of laws (limits_of expand ticks period) range holds w a b shelf IsUnread answered
 
-  pub planned_of : PlanLaws → (command : Option Command) → CommandAnswered command holds shelf IsUnread result a b → result ≡ exit.Done → ReachesIfPlan command holds a b
-  planned_of laws command answered is = planned_done laws command (subst (λ (e : Exit). CommandAnswered command holds shelf IsUnread e a b) is answered)
+  pub planned_of : PlanLaws → (command : Option Command) → IfSome command IsInRange → CommandAnswered command holds shelf IsUnread result a b → result ≡ exit.Done → ReachesIfPlan command holds a b
+  planned_of laws command range answered is = planned_done laws command range (subst (λ (e : Exit). CommandAnswered command holds shelf IsUnread e a b) is answered)
 
   pub read_of : (command : Option Command) → CommandAnswered command holds shelf IsUnread result a b → result ≡ exit.Read → shelf × UnreadLine IsUnread a b
   read_of None gave is = none_read result shelf IsUnread a b gave is

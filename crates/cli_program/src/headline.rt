@@ -13,13 +13,16 @@ use base_outside::{Clock, Shelf, Sink};
 use base_texts::Name;
 use cli_commands::run_words;
 use expect_reader::laws::expectations_read_one_way;
-use plan_search::laws::{plan_cuts_begin_within, plans_reach, plans_run_one_way};
+use plan_search::laws::{
+    plan_cuts_begin_within, planned_trees_join, plans_are_short, plans_reach, plans_run_one_way,
+    steps_are_named_plainly,
+};
 use run_driver::Driver;
 use spec_program::Exit;
 use std::alloc::Global;
 use std::mem;
 use tree_elements::{element_or_fault, one_element};
-use tree_round_trip::printed_trees_read_back;
+use tree_round_trip::printed_trees_read_back_after_comments;
 use world_reader::laws::worlds_read_one_way;
 
 /// Runs the command that the words of a command line are, over the files of the shelf, the moments of the
@@ -68,8 +71,9 @@ pub fn bt<S: Shelf, K: Sink, C: Clock>(
         (side (K.written out.new) (K.faults out.new) (C.moments clock.new) (map (λ b. state b) roster.new.items)) }
     ensures held { S.holds shelf.new ≡ S.holds shelf.old }
 
-    // Where a plan is Done, the tree that was written reads as a tree that makes every goal true after
-    // the tick that was written, in its own run, and not all of them after any earlier one.
+    // Where a plan is Done, all that was written is a tree file that is not too long. As it stands it reads as
+    // a tree that joins the world with these drivers, and that makes every goal true after the tick that was
+    // written, in its own run, and not all of them after any earlier one.
     ensures planned { result ≡ Exit.Done → ReachesIfPlan (command_of words.now) (S.holds shelf.old)
         (side (K.written out.old) (K.faults out.old) (C.moments clock.old) (map (λ b. state b) roster.old.items))
         (side (K.written out.new) (K.faults out.new) (C.moments clock.new) (map (λ b. state b) roster.new.items)) }
@@ -89,7 +93,10 @@ pub fn bt<S: Shelf, K: Sink, C: Clock>(
     plans_run_one_way();
     plan_cuts_begin_within();
     plans_reach();
-    printed_trees_read_back();
+    planned_trees_join();
+    steps_are_named_plainly();
+    plans_are_short();
+    printed_trees_read_back_after_comments();
     let mut boxes = Boxes {
         drivers: mem::replace(roster, Vec::new(alloc)),
     };

@@ -2,6 +2,15 @@
 //! what the command finds and leaves.
 
 ghost use Rattle.std.specs.Prelude.{ℕ, ◌≡◌, ◌⊎◌, List, None, Option, Some};
+ghost use Rattle.plan_search.specs.Lacking.{NamesSome};
+ghost use Rattle.spec_plan.specs.declared.ending.Limits.{Limits};
+ghost use Rattle.spec_plan.specs.Modelled.{modelled_run};
+ghost use Rattle.spec_program.specs.Output.{Output};
+ghost use Rattle.spec_program.specs.PlanOutputs.{IsPlanned};
+ghost use Rattle.spec_run.specs.Drivers.{DriverState};
+ghost use Rattle.spec_run.specs.Run.{run_over};
+ghost use Rattle.spec_tree.specs.declared.term.Tree.{Tree};
+ghost use Rattle.spec_world.specs.declared.world.World.{World};
 ghost use Rattle.spec_program.specs.Answers.{DriversWithin, Gave, IsWhole, Side};
 ghost use Rattle.spec_program.specs.declared.exit.Exit.{Exit as Given};
 ghost use Rattle.spec_program.specs.declared.exit.Exit.TheVariants as exit;
@@ -10,13 +19,13 @@ ghost use Rattle.cli_commands.specs.Answering.{CommandAnswered};
 ghost use Rattle.spec_program.specs.Answered.{ReadFailed};
 ghost use Rattle.spec_program.specs.Reads.{WordsUnread};
 ghost use Rattle.spec_outside.specs.Counts.{Rose};
-ghost use Rattle.spec_program.specs.Headline.{EachOutput, IsGiven, WholeOutput};
-ghost use Rattle.cli_program.specs.LawWords.{IsNotLive, ShelfAnswered, UnreadLine};
+ghost use Rattle.spec_program.specs.Headline.{EachOutput, IsGiven, IsGroundOf, IsScriptOf, PlanReaches, WholeOutput, ticking};
+ghost use Rattle.cli_program.specs.LawWords.{IsNotLive, RunsByTick, ShelfAnswered, UnreadLine};
 ghost use Rattle.spec_program.specs.Refused.{words_refused};
 
 use base_outside::Shelf;
 use expect_reader::laws::expectations_read_one_way;
-use plan_search::laws::{plan_cuts_begin_within, plans_run_one_way};
+use plan_search::laws::{plan_cuts_begin_within, plans_name_what_failed, plans_run_one_way};
 use tree_elements::{element_or_fault, one_element};
 use world_reader::laws::worlds_read_one_way;
 
@@ -77,4 +86,32 @@ pub fn loads_are_answered_over_every_shelf<S: Shelf>(before: &S, after: &S)
     expectations_read_one_way();
     plans_run_one_way();
     plan_cuts_begin_within();
+}
+
+/// By `planned`: what is written of a plan that is Done runs by `tick`, and is not refused. Where a script of at most as many
+/// bytes as a file may have describes the world with a tick each period, the output of the bytes that were written, with
+/// these drivers, is the run of the plan's tree. That run is the modelled one, in which the goals are true after the tick
+/// that was written.
+pub fn plans_run_as_they_stand()
+    ensures script { (holds : Option (List ℕ → List ℕ)) (named : List ℕ) (period : ℕ) (old new : Side)
+        (p : PlanReaches holds named IsScriptOf period old new) → RunsByTick p.steps p.tree p.tick p.world period old.drivers }
+    ensures ground { (holds : Option (List ℕ → List ℕ)) (named : List ℕ) (period : ℕ) (old new : Side)
+        (p : PlanReaches holds named IsGroundOf period old new) → RunsByTick p.steps p.tree p.tick p.world period old.drivers }
+    ensures modelled { (tree : Tree) (world : World) (period n : ℕ) →
+        run_over tree (ticking world period n) (ticking world period n).events ≡ modelled_run tree world period n }
+{
+    one_element();
+    element_or_fault();
+    worlds_read_one_way();
+    expectations_read_one_way();
+    plans_run_one_way();
+}
+
+/// By the definition of the output: a plan that is printed and ends without a template names at least one condition that
+/// failed.
+pub fn printed_plans_name_what_failed()
+    ensures { (world : World) (limits : Limits) (drivers : List DriverState) (output : Output)
+        (p : IsPlanned world limits drivers output) → NamesSome p.planned.end }
+{
+    plans_name_what_failed();
 }

@@ -5,9 +5,9 @@
 mod boxes;
 mod headline;
 pub mod laws;
-mod planning;
+mod plan_over;
 mod roster;
 
 pub use headline::bt;
-pub use planning::plan_over;
+pub use plan_over::plan_over;
 pub use roster::add_driver;

@@ -30,7 +30,7 @@ KeepsOf names facts (expected.Ends leaves given ms) past memo = EndsKept names f
 KeepsOf names facts (expected.NeverWith first second) past memo = ApartKept first second (happenings_in past) memo
 KeepsOf names facts (expected.Order first second) past memo = OrderKept first second (happenings_in past) memo
 
-follows_any : (names : List Fact) (facts : List ℤ) (e : Expectation) → IsOver names e → FollowsBy names facts e (KeepsOf names facts e)
+pub follows_any : (names : List Fact) (facts : List ℤ) (e : Expectation) → IsOver names e → FollowsBy names facts e (KeepsOf names facts e)
 follows_any names facts (expected.Always e) over = follows_always names facts e
 follows_any names facts (expected.At ms e) over = follows_at names facts ms e
 follows_any names facts (expected.By ms runner given) over = follows_by names facts ms runner given

@@ -4,6 +4,7 @@
 
 mod facts;
 mod held;
+pub mod laws;
 mod memo;
 mod notes;
 mod testing;

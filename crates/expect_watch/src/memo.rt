@@ -1,6 +1,7 @@
 ghost use Rattle.std.specs.Prelude.{◌≡◌, ◌≤◌, IfOk, length};
 ghost use Rattle.std.specs.Ordering.{nat_cmp};
 ghost use Rattle.spec_script.specs.Operators as operators;
+ghost use Rattle.spec_expect.specs.declared.expectation.Expectation.{Expectation as ExpectationOf};
 ghost use Rattle.spec_expect.specs.Met as met;
 ghost use Rattle.expect_watch.specs.Memos.{Fits, IsMemoOf};
 ghost use Rattle.expect_watch.specs.Over.{IsOver};
@@ -12,7 +13,7 @@ use base_texts::{Items, NoMemory};
 use run_driver::{FactTable, ReadyExpr};
 use spec_expect::Expectation;
 use spec_run::{Answer, Note};
-use spec_script::Cmp;
+use spec_script::{Cmp, Expr};
 use spec_world::Fact;
 use std::alloc::Global;
 
@@ -91,6 +92,30 @@ fn may_compare(op: Cmp, count: u64, number: u64) -> bool
     }
 }
 
+/// What an expression is expected to be at this moment, before the first event. The error is want of memory.
+fn at_of(
+    alloc: Global,
+    ms: u64,
+    expr: Expr,
+    names: &[Fact],
+    facts: &FactTable,
+) -> Result<Memo, NoMemory>
+    requires over { IsOver names.now (ExpectationOf.At ms expr) }
+    requires facts { length facts.now ≡ length names.now }
+    requires few { length names.now ≤ 1024 }
+    ensures memo { IfOk result (IsMemoOf names.now facts.now (ExpectationOf.At ms expr)) }
+    ensures fits { IfOk result (Fits (length facts.now)) }
+{
+    let expr = test_of(alloc, expr, names)?;
+    let is_so = is_so(&expr, facts);
+    Ok(Memo::At {
+        ms,
+        expr,
+        is_past: false,
+        is_so,
+    })
+}
+
 /// An expectation before the first event, where the facts have these values. The error is want of memory.
 pub fn memo_of(
     alloc: Global,
@@ -106,16 +131,7 @@ pub fn memo_of(
 {
     match expectation {
         Expectation::Always(expr) => Ok(Memo::Always(test_of(alloc, expr, names)?)),
-        Expectation::At { ms, expr } => {
-            let expr = test_of(alloc, expr, names)?;
-            let is_so = is_so(&expr, facts);
-            Ok(Memo::At {
-                ms,
-                expr,
-                is_past: false,
-                is_so,
-            })
-        }
+        Expectation::At { ms, expr } => at_of(alloc, ms, expr, names, facts),
         Expectation::By { ms, runner, answer } => Ok(Memo::By {
             ms,
             runner,

@@ -1,6 +1,6 @@
 -- What is opened of a tree whose leaves are all told what they answer, and what C is told of an opening.
-use Rattle.std.proofs.Common.{◌≡◌, ℕ, List, [], ◌∷◌, Bool, true, false, Option, Ok, Err, inl, inr, refl, sym, subst}
-use Rattle.std.specs.Prelude.{Result, MatchBool}
+use Rattle.std.proofs.Common.{◌≡◌, ◌⊎◌, ℕ, List, [], ◌∷◌, Bool, true, false, Option, Ok, Err, inl, inr, refl, sym, subst}
+use Rattle.std.specs.Prelude.{Result}
 use Rattle.std.specs.Global.{Global}
 use Rattle.std.specs.declared.boxed.Box.{Box}
 use Rattle.base_texts.specs.Stops.{Gives}
@@ -9,7 +9,6 @@ use Rattle.base_texts.specs.declared.stop.Stop.TheVariants as stop
 use Rattle.cli_refusals.specs.declared.refusal.Refusal.{Refusal}
 use Rattle.cli_refusals.specs.declared.refusal.Refusal.TheVariants as refusal
 use Rattle.cli_serve.specs.Rows.{IsTreeOf, MadeOf, ToldWorld}
-use Rattle.spec_program.specs.declared.tree_fault.TreeFault.{TreeFault}
 use Rattle.spec_program.specs.declared.tree_fault.TreeFault.TheVariants as fault
 use Rattle.spec_program.specs.Gives.{is_too_long}
 use Rattle.spec_program.specs.TreeFiles.{TreeReads}
@@ -24,8 +23,9 @@ use Rattle.spec_tree_file.specs.ElementFaults.{ElementFaultOf}
 use Rattle.spec_world.specs.declared.world.World.{World}
 use Rattle.tree_elements.proofs.Verdicts.{not_both}
 use Rattle.world_reader.specs.Readings as readings
+use Rattle.host_session.proofs.Files.{when_not}
 use Rattle.host_library.specs.declared.hosted.Hosted.{Hosted}
-use Rattle.host_library.specs.Opening.{Explained, Given, OpensIn, OpensTold, SomeTold, ToldOpens, main_of, session_of, told_stop}
+use Rattle.host_library.specs.Opening.{Explained, Given, OpensIn, OpensTold, ToldOpens, main_of, refused_as, session_of, told_stop}
 use Rattle.host_library.specs.Texts.{TextTold}
 
 -- the world of its told rows is joined with the tree
@@ -57,18 +57,12 @@ refused_told bytes tree (refusal.Rules f) of told = absurd told
 refused_told bytes tree (refusal.Expect f) of told = absurd told
 refused_told bytes tree (refusal.Ground f) of told = absurd told
 
-when_short : (main : Option (List ℕ)) (bytes : List ℕ) (tree : Tree) (sitting : Result Sitting OpenFault) (b : Bool) → b ≡ false
-    → TreeReads main bytes (Ok tree) → ToldOpens (Ok tree) bytes sitting
-    → MatchBool b (sitting ≡ Err open_fault.TreeTooLong) ((read : Result Tree TreeFault) × TreeReads main bytes read × ToldOpens read bytes sitting)
-when_short main bytes tree sitting true short reads told = absurd (cc)
-when_short main bytes tree sitting false short reads told = (Ok tree, reads, told)
-
 -- a file that is not too long, and is read
 pub read_told : (main : Option (List ℕ)) (bytes : List ℕ) (tree : Tree) (given : Result Sitting (Stop OpenFault)) → is_too_long bytes ≡ false
     → TreeReads main bytes (Ok tree) → readings.Gives given (ToldOpens (Ok tree) bytes) → readings.Gives given (OpensTold main bytes)
-read_told main bytes tree (Ok s) short reads told = when_short main bytes tree (Ok s) (is_too_long bytes) short reads told
+read_told main bytes tree (Ok s) short reads told = when_not _ _ (is_too_long bytes) short (Ok tree, reads, told)
 read_told main bytes tree (Err stop.NoMemory) short reads told = tt
-read_told main bytes tree (Err (stop.Fault f)) short reads told = when_short main bytes tree (Err f) (is_too_long bytes) short reads told
+read_told main bytes tree (Err (stop.Fault f)) short reads told = when_not _ _ (is_too_long bytes) short (Ok tree, reads, told)
 
 -- it is opened
 pub ok_given : (tree world main : List ℕ) (is_text : Bool) (hosted : Hosted) → is_text ≡ true → OpensIn (main_of main) tree world (Ok hosted.session)
@@ -92,10 +86,12 @@ pub unsaid : (tree world main room : List ℕ) (is_text : Bool) → Explained is
 unsaid tree world main room true = inr (untouched room)
 unsaid tree world main room false = untouched room
 
--- something is told, of files that are refused
+-- why files are refused, as far as there is memory for its line
 pub said_why : (tree world main room after : List ℕ) (size : ℕ) (is_text : Bool) (given : Result Sitting (Stop OpenFault)) (f : OpenFault) → is_text ≡ true
-    → given ≡ Err (stop.Fault f) → readings.Gives given (OpensIn (main_of main) tree world) → SomeTold room size after
-    → Explained is_text tree world main room size after
-said_why tree world main room after size is_text given f so is opens told =
+    → given ≡ Err (stop.Fault f) → readings.Gives given (OpensIn (main_of main) tree world)
+    → TextTold (refused_as f).bytes room size after ⊎ TextTold [] room size after → Explained is_text tree world main room size after
+said_why tree world main room after size is_text given f so is opens (inl told) =
     let refused = subst (λ (g : Result Sitting (Stop OpenFault)). readings.Gives g (OpensIn (main_of main) tree world)) is opens in
     subst (λ (b : Bool). Explained b tree world main room size after) (sym so) (inl (f, refused, told))
+said_why tree world main room after size is_text given f so is opens (inr nothing) =
+    subst (λ (b : Bool). Explained b tree world main room size after) (sym so) (inr nothing)

@@ -8,7 +8,10 @@ use Rattle.base_texts.specs.declared.stop.Stop.TheVariants as stop
 use Rattle.cli_refusals.specs.declared.refusal.Refusal.{Refusal}
 use Rattle.cli_refusals.specs.declared.refusal.Refusal.TheVariants as refusal
 use Rattle.cli_serve.specs.Rows.{MadeOf}
+use Rattle.spec_program.specs.declared.file.File.TheVariants as file
 use Rattle.spec_program.specs.declared.tree_fault.TreeFault.{TreeFault}
+use Rattle.spec_program.specs.Output.{Output}
+use Rattle.spec_program.specs.Refused.{join_refused, too_long, tree_refused, world_refused}
 use Rattle.spec_program.specs.Gives.{is_too_long}
 use Rattle.spec_program.specs.TreeFiles.{TreeReads}
 use Rattle.spec_session.specs.declared.open_fault.OpenFault.{OpenFault}
@@ -75,12 +78,16 @@ opened_code (Err code) = code
 abbrev pub OpenTold : Bool → List ℕ → List ℕ → List ℕ → Ptr → Ptr → Result Hosted ℕ → ℕ → Type 0
 OpenTold is_text tree world main before after given code = (code ≡ opened_code given) × IfErr given (λ _. after ≡ before) × Given is_text tree world main given
 
--- C is told some text
-abbrev pub SomeTold : List ℕ → ℕ → List ℕ → Type 0
-SomeTold room size after = (said : List ℕ) × TextTold said room size after
+-- what a command prints whose files are refused so
+abbrev pub refused_as : OpenFault → Output
+refused_as fault.TreeTooLong = too_long file.Tree
+refused_as fault.WorldTooLong = too_long file.World
+refused_as (fault.Tree f) = tree_refused f
+refused_as (fault.World f) = world_refused f
+refused_as (fault.Join f) = join_refused f
 
--- C is told this of why the files are refused: some text only where they are, and none of a main tree that is asked for by no UTF-8
+-- C is told this of why the files are refused: the line of a command that refuses them, where they are, or nothing where they are not or memory ran out; and nothing of a main tree that is asked for by no UTF-8
 abbrev pub Explained : Bool → List ℕ → List ℕ → List ℕ → List ℕ → ℕ → List ℕ → Type 0
 Explained false tree world main room size after = TextTold [] room size after
 Explained true tree world main room size after =
-    ((f : OpenFault) × OpensIn (main_of main) tree world (Err f) × SomeTold room size after) ⊎ TextTold [] room size after
+    ((f : OpenFault) × OpensIn (main_of main) tree world (Err f) × TextTold (refused_as f).bytes room size after) ⊎ TextTold [] room size after

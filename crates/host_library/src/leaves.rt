@@ -175,7 +175,8 @@ pub unsafe extern "C" fn bt_input_name(
     ghost before: { Hosted }
     requires* { sem 𝓛 (hosted_owns session before) }
     ensures* { sem 𝓛 (hosted_owns session before)
-        ∗ ⌜ TextTold (reads.text_given (slice_get (reads.inputs_named (reads.row_at before.session uid)) place)) room.old result room.new ⌝ }
+        ∗ ⌜ TextTold (reads.text_given (slice_get (reads.inputs_named (reads.row_at before.session uid)) place))
+        room.old result room.new ⌝ }
 {
     Hosted::input_name(&*(session as *mut Hosted), uid, place, room)
 }
@@ -228,7 +229,8 @@ pub unsafe extern "C" fn bt_output_name(
     ghost before: { Hosted }
     requires* { sem 𝓛 (hosted_owns session before) }
     ensures* { sem 𝓛 (hosted_owns session before)
-        ∗ ⌜ TextTold (reads.text_given (slice_get (reads.outputs_named (reads.row_at before.session uid)) place)) room.old result room.new ⌝ }
+        ∗ ⌜ TextTold (reads.text_given (slice_get (reads.outputs_named (reads.row_at before.session uid)) place))
+        room.old result room.new ⌝ }
 {
     Hosted::output_name(&*(session as *mut Hosted), uid, place, room)
 }

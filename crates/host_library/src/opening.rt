@@ -1,6 +1,6 @@
 //! How a session is opened, and why it is not.
 ghost use types.Logic.{sem};
-ghost use Rattle.std.specs.Prelude.{◌≡◌, ◌≤◌, [], IsUtf8, IfOk, Ok, Result as ResultOf, length, ℕ as N};
+ghost use Rattle.std.specs.Prelude.{◌≡◌, ◌≤◌, ◌⊎◌, [], IsUtf8, IfOk, Ok, Result as ResultOf, length, ℕ as N};
 ghost use Rattle.std.specs.Str.{is_utf8};
 ghost use Rattle.std.specs.Option.{option_copied};
 ghost use Rattle.base_tables.specs.Runnable.{IsRunnable};
@@ -13,23 +13,23 @@ ghost use Rattle.spec_tree.specs.Trees.{IsValid};
 ghost use Rattle.spec_world.specs.Runnable.{IsRunnableWorld};
 ghost use Rattle.world_reader.specs.Readings as readings;
 ghost use Rattle.host_library.specs.declared.hosted.Hosted.{Hosted as HostedOf};
-ghost use Rattle.host_library.specs.Opening.{Explained, Given, OpenTold, OpensIn, OpensTold, SomeTold, ToldOpens, given_of, main_of, session_of, told_stop};
+ghost use Rattle.host_library.specs.Opening.{Explained, Given, OpenTold, OpensIn, OpensTold, ToldOpens, given_of, main_of, refused_as, session_of, told_stop};
 ghost use Rattle.host_library.specs.Owned.{given_owns};
+ghost use Rattle.host_library.specs.Texts.{TextTold};
 
 use crate::codes::{MISUSE, NO_MEMORY, OK, REFUSED};
 use crate::hosted::Hosted;
 use crate::text::{copy_text, is_utf8};
-use base_outside::SureSink;
 use base_tables::MOST_FILE_BYTES;
 use base_texts::{Name, NoMemory, Stop};
-use cli_refusals::{Refusal, write_refusal};
+use cli_refusals::{Refusal, join_refusal, tree_refusal, world_refusal};
 use cli_serve::told_world;
 use host_session::Session;
-use spec_program::File;
 use spec_session::OpenFault;
 use spec_tree::Tree;
 use spec_world::World;
 use std::alloc::Global;
+use text_lines::put_bytes;
 use tree_reader::parse_tree;
 
 /// Why a tree is refused that opens no session without a world; the rest is want of memory.
@@ -117,17 +117,6 @@ fn open(alloc: Global, tree: &[u8], world: &[u8], main: &[u8]) -> Result<Session
     }
 }
 
-/// Why files are refused that open no session.
-fn refusal_of(fault: OpenFault) -> Refusal {
-    match fault {
-        OpenFault::TreeTooLong => Refusal::TooLong(File::Tree),
-        OpenFault::WorldTooLong => Refusal::TooLong(File::World),
-        OpenFault::Tree(fault) => Refusal::Tree(fault),
-        OpenFault::World(fault) => Refusal::World(fault),
-        OpenFault::Join(fault) => Refusal::Join(fault),
-    }
-}
-
 /// A session in a block of its own, with no outputs for the next telling.
 fn boxed(alloc: Global, session: Session) -> Result<Box<Hosted>, NoMemory>
     ensures session { IfOk result (λ hosted. hosted.value.session ≡ session) }
@@ -200,13 +189,36 @@ pub extern "C" fn bt_open(
     }
 }
 
-/// Copies the line of a refusal; nothing for want of memory.
-fn copy_refusal(alloc: Global, fault: OpenFault, room: &mut [u8]) -> usize
-    ensures { SomeTold room.old result room.new }
+/// This line, without more than its words.
+fn plain_line(alloc: Global, words: &[u8]) -> Result<Vec<u8>, NoMemory>
+    ensures { IfOk result (λ line. line.items ≡ words.now) }
 {
-    let mut sink = SureSink::new(alloc);
-    let _exit = write_refusal(alloc, &refusal_of(fault), &mut sink);
-    copy_text(sink.list(), room)
+    let mut line = Vec::new(alloc);
+    put_bytes(&mut line, words)?;
+    Ok(line)
+}
+
+/// The line that refuses files which open no session.
+fn refusal_line(alloc: Global, fault: &OpenFault) -> Result<Vec<u8>, NoMemory>
+    ensures { IfOk result (λ line. line.items ≡ (refused_as fault.now).bytes) }
+{
+    match fault {
+        OpenFault::TreeTooLong => plain_line(alloc, b"refused tree TooLong\n"),
+        OpenFault::WorldTooLong => plain_line(alloc, b"refused world TooLong\n"),
+        OpenFault::Tree(fault) => tree_refusal(alloc, fault),
+        OpenFault::World(fault) => world_refusal(alloc, *fault),
+        OpenFault::Join(fault) => join_refusal(alloc, fault),
+    }
+}
+
+/// Copies the line that refuses files which open no session; nothing for want of memory.
+fn copy_refusal(alloc: Global, fault: &OpenFault, room: &mut [u8]) -> usize
+    ensures { TextTold (refused_as fault.now).bytes room.old result room.new ⊎ TextTold [] room.old result room.new }
+{
+    match refusal_line(alloc, fault) {
+        Ok(line) => copy_text(line.as_slice(), room),
+        Err(NoMemory) => 0,
+    }
 }
 
 /// Writes why these files open no session; nothing where they open one.
@@ -229,7 +241,7 @@ pub extern "C" fn bt_explain(
             drop(session);
             0
         }
-        Err(Stop::Fault(fault)) => copy_refusal(alloc, fault, room),
+        Err(Stop::Fault(fault)) => copy_refusal(alloc, &fault, room),
         Err(Stop::NoMemory) => 0,
     }
 }

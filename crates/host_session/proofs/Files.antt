@@ -12,7 +12,7 @@ use Rattle.spec_tree.specs.declared.term.Tree.{Tree}
 use Rattle.world_reader.specs.Readings as readings
 
 -- the second of two facts, where a test decides for it
-when_not : (A B : Type 0) (b : Bool) → b ≡ false → B → MatchBool b A B
+pub when_not : (A B : Type 0) (b : Bool) → b ≡ false → B → MatchBool b A B
 when_not A B true is fact = absurd (cc)
 when_not A B false is fact = fact
 

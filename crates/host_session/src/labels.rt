@@ -8,7 +8,6 @@ use base_texts::{Name, NoMemory};
 use spec_session::Label;
 use spec_tree::{Kind, Term, Tree};
 use std::alloc::Global;
-use tree_copies::copy_ports;
 
 /// The path of a node of this name: what the paths here begin with, and then the name.
 fn path_of(alloc: Global, above: &Name, name: &Name) -> Result<Name, NoMemory>
@@ -53,7 +52,7 @@ fn label_of(alloc: Global, node: &Term, scope: u32, above: &Name) -> Result<Labe
         name: node.name.copy(alloc)?,
         path: path_of(alloc, above, &node.name)?,
         scope,
-        ports: copy_ports(alloc, node.ports.list())?,
+        ports: node.ports.share()?,
     })
 }
 

@@ -40,11 +40,10 @@ use Rattle.spec_plan.specs.declared.ending.End.{End}
 use Rattle.spec_plan.specs.declared.ending.End.TheVariants.{Faulted}
 use Rattle.spec_plan.specs.declared.ending.Limits.{Limits}
 use Rattle.spec_plan.specs.declared.ending.PlanEnd.{PlanEnd}
-use Rattle.spec_plan.specs.declared.ending.Step.{Step}
 use Rattle.spec_plan.specs.PlanLines.{comment, end_line}
-use Rattle.spec_plan.specs.PlanRuns.{Ends, IsFirst, IsStep, Lead, PlanRun, Trial, tree_of}
-use Rattle.spec_plan.specs.Settling.{AreRaises}
-use Rattle.plan_search.proofs.PartRows.{OfRow, OfRows, expanded_of, goals_of, raised_of}
+use Rattle.spec_plan.specs.PlanRuns.{Ends, PlanRun, Trial, tree_of}
+use Rattle.plan_search.proofs.PartRows.{OfRow, OfRows}
+use Rattle.plan_search.proofs.RunRows.{first_rows, lead_rows}
 
 -- ---- Rows by their IDs
 
@@ -55,7 +54,7 @@ other_id id (first ∷ rows) zero row all there = let same : first ≡ row = cc 
 other_id id (first ∷ rows) (suc n) row all there = other_id id rows n row all.1 there
 
 -- where IDs differ, the row of an ID is the one that has it
-by_id : (rows : List Row) (n : ℕ) (row : Row) → IsDistinct bytes_eq (ids_of_rows rows) → slice_get rows n ≡ Some row → row_of rows row.id ≡ Some row
+pub by_id : (rows : List Row) (n : ℕ) (row : Row) → IsDistinct bytes_eq (ids_of_rows rows) → slice_get rows n ≡ Some row → row_of rows row.id ≡ Some row
 by_id [] n row apart there = absurd (cc there)
 by_id (first ∷ rows) zero row apart there =
     let same : first ≡ row = cc there in
@@ -67,7 +66,7 @@ by_id (first ∷ rows) (suc n) row apart there =
 -- ---- Templates
 
 -- what holds of each row that is a template holds of each template
-templates_are : (P : ℕ → Type 0) (first : ℕ) (rows : List Row) → ((n : ℕ) (row : Row) → slice_get rows n ≡ Some row → is_template row ≡ true → P (first + n)) → AllByRecursion (λ (t : Template). P t.row) (templates_from first rows)
+pub templates_are : (P : ℕ → Type 0) (first : ℕ) (rows : List Row) → ((n : ℕ) (row : Row) → slice_get rows n ≡ Some row → is_template row ≡ true → P (first + n)) → AllByRecursion (λ (t : Template). P t.row) (templates_from first rows)
 templates_are P first [] each = tt
 templates_are P first (row ∷ rows) each =
     let later : AllByRecursion (λ (t : Template). P t.row) (templates_from (suc first) rows) = templates_are P (suc first) rows (λ n other there is. let e : first + suc n ≡ suc first + n = omega arith in subst P e (each (suc n) other there is)) in
@@ -83,7 +82,7 @@ first_passes {X} P test (first ∷ xs) x all is =
       | false ↦ λ e. first_passes P test xs x all.1 e
     ] is
 
-first_untried : (P : ℕ → Type 0) (rows : List Row) → AllByRecursion (λ (t : Template). P t.row) (templates_of rows) → (condition : Option ℕ) (tried : List ℕ) (t : Template) → slice_get (untried_of rows condition tried) 0 ≡ Some t → P t.row
+pub first_untried : (P : ℕ → Type 0) (rows : List Row) → AllByRecursion (λ (t : Template). P t.row) (templates_of rows) → (condition : Option ℕ) (tried : List ℕ) (t : Template) → slice_get (untried_of rows condition tried) 0 ≡ Some t → P t.row
 first_untried P rows all None tried t is = absurd (cc is)
 first_untried P rows all (Some condition) tried t is = first_passes (λ (t : Template). P t.row) _ (templates_of rows) t all is
 
@@ -175,28 +174,7 @@ module _ (world : World) (valid : IsValidWorld world) where
 
   -- ---- Plan runs
 
-  first_portless : (first : Forest) → IsFirst world first → OfRows HasNoPort first
-  first_portless first is = subst (OfRows HasNoPort) (sym is.is) (goals_of HasNoPort is.root is.keys world.goals goals_portless)
-
-  raises_portless : (n sequence : ℕ) (f after : Forest) → OfRows HasNoPort f → AreRaises world.rows sequence n f after → OfRows HasNoPort after
-  raises_portless zero sequence f after own raises = subst (OfRows HasNoPort) raises own
-  raises_portless (suc n) sequence f after own (pair, next, conflict, is, raises) = raises_portless n sequence next after (raised_of HasNoPort sequence f next own is) raises
-
   module _ (limits : Limits) where
-    step_portless : (t : Trial) (s : Step) (next : Forest) → OfRows HasNoPort t.tree → IsStep world limits t s next → OfRows HasNoPort next
-    step_portless t s next own is =
-        let grown : OfRows HasNoPort is.grown = subst (OfRows HasNoPort) (sym is.grows.is)
-        (expanded_of HasNoPort world.rows is.grows.keys is.place.key is.template.row t.tree (needs_portless is.template.row) (untried_portless is.place.key t.tree is.template is.grows.untried) own) in
-        raises_portless s.raises is.sequence is.grown next grown is.settles.raised
-
-    lead_portless : (trials : List Trial) (steps : List Step) (added : ℕ) (f after : Forest) → OfRows HasNoPort f → Lead world limits added f trials steps after → OfRows HasNoPort after
-    lead_portless [] [] added f after own lead = subst (OfRows HasNoPort) lead own
-    lead_portless (t ∷ trials) (s ∷ steps) added f after own lead =
-        let next = lead.3 in
-        lead_portless trials steps (added + 1) next.0 after (step_portless t s next.0 (subst (OfRows HasNoPort) (sym lead.0) own) next.1) next.2
-    lead_portless [] (s ∷ steps) added f after own lead = absurd lead
-    lead_portless (t ∷ trials) [] added f after own lead = absurd lead
-
     same_words : (names other : LineNames) (uid : ℕ) (cause : Cause) → HasNoName cause → cause_words names uid cause ≡ cause_words other uid cause
     same_words names other uid (NoEntry slot) none = absurd none
     same_words names other uid (NoInput place) none = absurd none
@@ -212,4 +190,5 @@ module _ (world : World) (valid : IsValidWorld world) where
     -- the line of the end is the same by whatever names it is told
     pub ends_alike : (planned : PlanEnd) (trials : List Trial) (last : Trial) (names other : LineNames) → PlanRun world limits planned trials last → end_line names planned.end ≡ end_line other planned.end
     ends_alike planned trials last names other run =
-        end_alike names other (length planned.steps) last planned.end (lead_portless trials planned.steps 0 run.first last.tree (first_portless run.first run.is_first) run.lead) run.ends
+        end_alike names other (length planned.steps) last planned.end (lead_rows HasNoPort world goals_portless needs_portless untried_portless limits trials planned.steps 0 run.first last.tree
+        (first_rows HasNoPort world goals_portless needs_portless untried_portless run.first run.is_first) run.lead) run.ends

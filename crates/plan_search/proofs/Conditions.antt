@@ -34,13 +34,13 @@ module _ (key : ℕ) (part : Part) (below rest : Forest) (apart : (k : ℕ) → 
   abbrev whole : Forest
   whole = Tree key part below rest
 
-  own_part : part_at key whole ≡ Some part
+  pub own_part : part_at key whole ≡ Some part
   own_part = ap (λ (o : Option (Part × Forest)). option_map (λ (n : Part × Forest). n.0) o) (chosen (nat_eq key key) (Some (part, below)) (option_or (node_at key below) (node_at key rest)) (test_same key key refl))
 
   other_node : (k : ℕ) → key ≢ k → node_at k whole ≡ option_or (node_at k below) (node_at k rest)
   other_node k differs = skipped (nat_eq key k) (Some (part, below)) (option_or (node_at k below) (node_at k rest)) (test_other key k differs)
 
-  below_part : (k : ℕ) (x : Part) → part_at k below ≡ Some x → part_at k whole ≡ Some x
+  pub below_part : (k : ℕ) (x : Part) → part_at k below ≡ Some x → part_at k whole ≡ Some x
   below_part k x is =
       let node = part_node k below x is in
       let has = node_counts k below (x, node.0) node.1 in
@@ -48,7 +48,7 @@ module _ (key : ℕ) (part : Part) (below rest : Forest) (apart : (k : ℕ) → 
       let differs : key ≢ k = λ e. absurd (omega (arith, has, once, one_same key k e)) in
       ap (λ (o : Option (Part × Forest)). option_map (λ (n : Part × Forest). n.0) o) (other_node k differs ∙ ap (λ (o : Option (Part × Forest)). option_or o (node_at k rest)) node.1)
 
-  rest_part : (k : ℕ) (x : Part) → part_at k rest ≡ Some x → part_at k whole ≡ Some x
+  pub rest_part : (k : ℕ) (x : Part) → part_at k rest ≡ Some x → part_at k whole ≡ Some x
   rest_part k x is =
       let node = part_node k rest x is in
       let has = node_counts k rest (x, node.0) node.1 in

@@ -110,13 +110,13 @@ swap_nearer n k (Tree a x below rest) p found many = elim (tested a k) [
 
 -- ---- A raise
 
-only_one : (own a : Ancestor) → find can_move (own ∷ []) ≡ Some a → (own ≡ a) × (can_move own ≡ true)
+pub only_one : (own a : Ancestor) → find can_move (own ∷ []) ≡ Some a → (own ≡ a) × (can_move own ≡ true)
 only_one own a e = elim (can_move own) as (λ (b : Bool). can_move own ≡ b → (if b then Some own else None) ≡ Some a → (own ≡ a) × (can_move own ≡ true)) [
   | true ↦ λ is e. (cc e, is)
   | false ↦ λ is e. absurd (cc e)
 ] refl e
 
-in_above : (k : ℕ) (f : Forest) (p : Place) (a : Ancestor) → place_of k f ≡ Some p → find can_move p.above ≡ Some a → 1 ≤ times a.key f
+pub in_above : (k : ℕ) (f : Forest) (p : Place) (a : Ancestor) → place_of k f ≡ Some p → find can_move p.above ≡ Some a → 1 ≤ times a.key f
 in_above k Empty p a found moves = absurd (cc found)
 in_above k (Tree key part below rest) p a found moves = elim (tested key k) [
   | inl hit ↦ let e = ap (λ (q : Place). find can_move q.above) (first_place k key part below rest p found (is_same key k hit)) in absurd (cc (e, moves))
@@ -233,3 +233,11 @@ raised_many weight k tree next apart is =
                 subst (λ (g : Forest). total weight g ≡ total weight tree) same (total-moved weight a tree (omega (arith, has, once)))
           ] refl e
     ] refl is
+
+-- a raise is a move in some node
+pub raised_is : (k : ℕ) (tree next : Forest) → raised k tree ≡ Some next → (a : Ancestor) × (moved_in a tree ≡ next)
+raised_is k tree next is =
+    elim (find can_move (ancestors k tree)) as (λ (o : Option Ancestor). option_map (λ (a : Ancestor). moved_in a tree) o ≡ Some next → (a : Ancestor) × (moved_in a tree ≡ next)) [
+      | None ↦ λ e. absurd (cc e)
+      | Some a ↦ λ e. (a, cc e)
+    ] is

@@ -57,7 +57,7 @@ module _ (s : Slab Node) (keys : List ℕ) (i : ℕ) (within : i < length keys) 
 
 -- ---- Marks
 
-places-append : (uid : ℕ) (xs ys : List Spot) → places_from uid (xs ++ ys) ≡ places_from uid xs ++ places_from (uid + length xs) ys
+pub places-append : (uid : ℕ) (xs ys : List Spot) → places_from uid (xs ++ ys) ≡ places_from uid xs ++ places_from (uid + length xs) ys
 places-append uid [] ys = ap (λ (n : ℕ). places_from n ys) (omega arith)
 places-append uid (x ∷ xs) ys =
     ap (λ (l : List Place). own_place uid x.key x.level x.part ++ l) (places-append (uid + 1) xs ys)

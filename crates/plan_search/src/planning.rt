@@ -9,6 +9,7 @@ ghost use Rattle.spec_run.specs.Rosters.{IsSameRoster};
 ghost use Rattle.plan_search.specs.Served.{AreServed};
 ghost use Rattle.spec_plan.specs.PlanAnswers.{IsPlan, IsPlanCut, StandsAlone};
 ghost use Rattle.plan_search.specs.Going.{GoesFrom, IsPlanTask, IsStopped};
+ghost use Rattle.plan_search.specs.Lacking.{NamesSome};
 ghost use Rattle.plan_search.specs.Reached.{AreInRange, IsReached};
 ghost use Rattle.spec_plan.specs.PlanRuns.{IsFirst};
 
@@ -142,6 +143,7 @@ pub fn plan<D: Drivers>(
     requires quiet { NothingHeld (D.states drivers.old) }
     ensures plan { IfOk result (λ planned. IsPlan world.now limits.now (D.states drivers.old) (D.states drivers.new) planned) }
     ensures reached { IfOk result (λ planned. IsReached world.now limits.now planned.end) }
+    ensures named { IfOk result (λ planned. NamesSome planned.end) }
     ensures alone { IfOk result (λ planned. StandsAlone planned.end) }
     ensures cut { OnErr result (IsPlanCut world.now limits.now (D.states drivers.old) (D.states drivers.new)) }
     ensures none { NothingHeld (D.states drivers.new) }

@@ -17,7 +17,7 @@ ghost use Rattle.plan_tree.specs.Growth.{fallback_children, names_sequence, part
 ghost use Rattle.plan_tree.specs.Stands.{IsConditionOf, StandsFor};
 
 use crate::achievers::achievers_at;
-use crate::growing::{Branch, add_last, wrap};
+use crate::inserting::{Branch, add_last, wrap};
 use crate::node::Node;
 use crate::rule::Rule;
 use crate::tree::PlanTree;

@@ -5,7 +5,7 @@
 mod achievers;
 mod domain;
 mod expanding;
-mod growing;
+mod inserting;
 mod node;
 mod numbers;
 mod planned;

@@ -17,7 +17,7 @@ use crate::tree::PlanTree;
 use base_texts::{Items, Name, NoMemory};
 use slab::Slab;
 use spec_plan::Part;
-use spec_tree::{Guards, Kind, Term, Tree};
+use spec_tree::{Guards, Kind, Ports, Term, Tree};
 use spec_world::{Row, World};
 use std::alloc::Global;
 
@@ -86,7 +86,7 @@ pub(crate) fn plain_node(
         kind: kind_of(part),
         id,
         name,
-        ports: Items::of(Vec::new(alloc)),
+        ports: Ports::none(),
         code: None,
         guards: no_guards(),
         autoremap: false,

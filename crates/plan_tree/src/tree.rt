@@ -7,7 +7,7 @@ ghost use Rattle.plan_tree.specs.Stands.{StandsFor};
 
 use crate::achievers::all_achievers;
 use crate::domain::{templates, test_of};
-use crate::growing::{Branch, add_branch, leaf_keys, reserve};
+use crate::inserting::{Branch, add_branch, leaf_keys, reserve};
 use crate::node::Node;
 use crate::rule::Rule;
 use base_texts::{Items, NoMemory};

@@ -1,5 +1,5 @@
 -- A script means the same over two maps of names to slots that agree on its names.
-use Rattle.std.proofs.Common.{◌≡◌, ℕ, ◌+◌, max, pos, ◌||◌, List, [], ◌∷◌, ◌++◌, map, refl, sym, ap, subst, ◌∙◌}
+use Rattle.std.proofs.Common.{◌≡◌, ℕ, pos, ◌||◌, List, [], ◌∷◌, ◌++◌, refl, sym, ap, subst, ◌∙◌}
 use Rattle.std.specs.Prelude.{Option, Result}
 use Rattle.std.specs.List.{flat_map}
 use Rattle.std.proofs.lemmas.List.Elements.{All-head, All-tail}
@@ -12,13 +12,11 @@ use Rattle.spec_script.specs.declared.value.Value.{Value}
 use Rattle.spec_script.specs.declared.value.Value.TheVariants.{Int}
 use Rattle.spec_script.specs.Entries.{entry_of}
 use Rattle.spec_script.specs.Evaluation.{eval_of, followed, if_there, stmt_of, stmts_of, written}
-use Rattle.spec_script.specs.Numbers.{greatest}
 use Rattle.spec_script.specs.Operators.{chosen, combined, unary_on}
 use Rattle.base_texts.specs.Results.{◌>>=◌}
 use Rattle.spec_script.specs.Scripts.{names_of, names_step, stmt_names}
 use Rattle.script_code.specs.Meeting.{Evaluated, choice_meets, evaluated, evaluated_step, is_ok_and, looked_at, operands_meet, stmt_meets, stmts_meet}
 use Rattle.script_code.specs.Programs.{program_of}
-use Rattle.script_code.specs.Sources.{reach_of, reach_step, stmt_reach}
 use Rattle.run_driver.proofs.Agreeing as agreed
 use Rattle.run_driver.proofs.Parts.{All-left, All-right}
 
@@ -67,36 +65,6 @@ module _ (f g : List ℕ → ℕ) where
         (subst Agree (fold-roll-Expr (List (List ℕ)) names_step x) agree)
         ∙ sym (fold-roll-Expr Evaluated (evaluated_step (λ name. look (g name))) x))
 
-  abbrev SameReach : Expr → Type 0
-  SameReach e = Agree (names_of e) → reach_of f e ≡ reach_of g e
-
-  reach_at : (y : Expr-F ((e : Expr) × SameReach e)) →
-      Agree (names_step (map-Expr Expr (List (List ℕ)) names_of (map-Expr ((e : Expr) × SameReach e) Expr (λ e. e.0) y))) →
-      reach_step f (map-Expr Expr ℕ (reach_of f) (map-Expr ((e : Expr) × SameReach e) Expr (λ e. e.0) y))
-      ≡ reach_step g (map-Expr Expr ℕ (reach_of g) (map-Expr ((e : Expr) × SameReach e) Expr (λ e. e.0) y))
-  reach_at (Num n) agree = refl
-  reach_at (Lit t) agree = refl
-  reach_at (Look name) agree = ap (λ n. n + 1) (All-head (λ name. f name ≡ g name) name [] agree)
-  reach_at (Group a) agree = a.1 agree
-  reach_at (Unary op a) agree = a.1 agree
-  reach_at (Binary op a b) agree =
-      let first = a.1 (All-left (λ name. f name ≡ g name) (names_of a.0) (names_of b.0) agree) in
-      let second = b.1 (All-right (λ name. f name ≡ g name) (names_of a.0) (names_of b.0) agree) in
-      λ i. max (first i) (second i)
-  reach_at (Choose a b c) agree =
-      let front = All-left (λ name. f name ≡ g name) (names_of a.0 ++ names_of b.0) (names_of c.0) agree in
-      let first = a.1 (All-left (λ name. f name ≡ g name) (names_of a.0) (names_of b.0) front) in
-      let second = b.1 (All-right (λ name. f name ≡ g name) (names_of a.0) (names_of b.0) front) in
-      let third = c.1 (All-right (λ name. f name ≡ g name) (names_of a.0 ++ names_of b.0) (names_of c.0) agree) in
-      λ i. max (first i) (max (second i) (third i))
-
-  same_reach : (e : Expr) → SameReach e
-  same_reach = ind-Expr SameReach (λ x y is agree.
-      fold-roll-Expr ℕ (reach_step f) x
-      ∙ subst (λ (z : Expr-F Expr). Agree (names_step (map-Expr Expr (List (List ℕ)) names_of z)) → reach_step f (map-Expr Expr ℕ (reach_of f) z) ≡ reach_step g (map-Expr Expr ℕ (reach_of g) z)) is (reach_at y)
-      (subst Agree (fold-roll-Expr (List (List ℕ)) names_step x) agree)
-      ∙ sym (fold-roll-Expr ℕ (reach_step g) x))
-
   same_stmt : (s : Stmt) (entries : List (Option Value)) → Agree (stmt_names s) → stmt_of f s entries ≡ stmt_of g s entries
   same_stmt (Create name e) entries agree =
       let here = All-head (λ name. f name ≡ g name) name (names_of e) agree in
@@ -139,29 +107,9 @@ module _ (f g : List ℕ → ℕ) where
       let rest = All-right (λ name. f name ≡ g name) (stmt_names s) (flat_map stmt_names stmts) agree in
       λ i. met i || is_ok_and (run i).answer (λ (value : Value). same_stmts_meet stmts (run i).entries rest i)
 
-  same_stmt_reach : (s : Stmt) → Agree (stmt_names s) → stmt_reach f s ≡ stmt_reach g s
-  same_stmt_reach (Create name e) agree =
-      let here = All-head (λ name. f name ≡ g name) name (names_of e) agree in
-      let rest = same_reach e (All-tail (λ name. f name ≡ g name) name (names_of e) agree) in λ i. max (here i + 1) (rest i)
-  same_stmt_reach (Assign name e) agree =
-      let here = All-head (λ name. f name ≡ g name) name (names_of e) agree in
-      let rest = same_reach e (All-tail (λ name. f name ≡ g name) name (names_of e) agree) in λ i. max (here i + 1) (rest i)
-  same_stmt_reach (Change op name e) agree =
-      let here = All-head (λ name. f name ≡ g name) name (names_of e) agree in
-      let rest = same_reach e (All-tail (λ name. f name ≡ g name) name (names_of e) agree) in λ i. max (here i + 1) (rest i)
-  same_stmt_reach (Plain e) agree = same_reach e agree
-
-  same_reaches : (stmts : List Stmt) → Agree (flat_map stmt_names stmts) → greatest (map (stmt_reach f) stmts) ≡ greatest (map (stmt_reach g) stmts)
-  same_reaches [] agree = refl
-  same_reaches (s ∷ stmts) agree =
-      let first = same_stmt_reach s (All-left (λ name. f name ≡ g name) (stmt_names s) (flat_map stmt_names stmts) agree) in
-      let rest = same_reaches stmts (All-right (λ name. f name ≡ g name) (stmt_names s) (flat_map stmt_names stmts) agree) in
-      λ i. max (first i) (rest i)
-
   -- the statements of a script
   pub same_program : (stmts : List Stmt) → Agree (flat_map stmt_names stmts) → program_of f stmts ≡ program_of g stmts
   same_program stmts agree = λ i. record {
     run = λ entries. same_stmts (Int (pos 0)) stmts entries agree i;
-    reach = same_reaches stmts agree i;
     meets = λ entries. same_stmts_meet stmts entries agree i;
   }

@@ -1,6 +1,6 @@
 -- A script that is read from its text can be compiled.
 use Rattle.std.proofs.Common.{◌≡◌, ℕ, ◌+◌, ◌<◌, ◌≤◌, List, [], ◌∷◌, ◌++◌, Bool, true, false, cond, nat_le, Option, Some, None, map, length, drop, refl, sym, ap, subst, ◌∙◌, length-append, arith}
-use Rattle.std.specs.List.{All, AllByRecursion, flat_map, list_all}
+use Rattle.std.specs.List.{All, AllByRecursion, list_all}
 use Rattle.std.proofs.Math.Seq.{drop-append-add}
 use Rattle.std.proofs.lemmas.Bool.Decides.{nat_tests}
 use Rattle.std.proofs.lemmas.List.{drop-map, length-map}
@@ -15,11 +15,8 @@ use Rattle.spec_script.specs.declared.token.Token.{Token}
 use Rattle.spec_script.specs.declared.token.Token.TheVariants.{Semicolon}
 use Rattle.spec_script.specs.Grammar.{expr_of, fits, fits_stmt, height, kept, separated, sign_fits, spelled, spelled_slot, spelled_step, spelled_stmt}
 use Rattle.spec_script.specs.Reading.{ReadsScript, bare, first_place, high_stmt}
-use Rattle.spec_script.specs.Scripts.{stmt_names}
-use Rattle.script_code.specs.Sources.{IsCompilable, IsListed}
-use Rattle.run_arena.specs.Resolving.{names_in_script}
+use Rattle.script_code.specs.Sources.{IsCompilable}
 use Rattle.run_arena.proofs.Parts.{and_left, and_right}
-use Rattle.run_driver.proofs.Parts.{All-left, All-right}
 
 -- ---- each expression has a token in the text
 
@@ -77,20 +74,17 @@ lows (Some s ∷ x ∷ xs) ts written low =
 
 -- ---- and each can be compiled
 
-compilable_all : (slots : List (List ℕ × ℕ)) (stmts : List Stmt) → AllByRecursion IsLow stmts → list_all fits_stmt stmts ≡ true → All (IsListed slots) (flat_map stmt_names stmts) → All (IsCompilable slots) stmts
-compilable_all slots [] low fit listed = All-nil (IsCompilable slots)
-compilable_all slots (s ∷ stmts) low fit listed =
-    All-cons (IsCompilable slots) s stmts
+compilable_all : (stmts : List Stmt) → AllByRecursion IsLow stmts → list_all fits_stmt stmts ≡ true → All IsCompilable stmts
+compilable_all [] low fit = All-nil IsCompilable
+compilable_all (s ∷ stmts) low fit =
+    All-cons IsCompilable s stmts
     (record {
-      named = All-left (IsListed slots) (stmt_names s) (flat_map stmt_names stmts) listed;
       low = low.0;
       arithmetic = and_left (sign_fits s) (fits (expr_of s) 0) (and_left (fits_stmt s) (list_all fits_stmt stmts) fit);
     })
-    (compilable_all slots stmts low.1 (and_right (fits_stmt s) (list_all fits_stmt stmts) fit) (All-right (IsListed slots) (stmt_names s) (flat_map stmt_names stmts) listed))
+    (compilable_all stmts low.1 (and_right (fits_stmt s) (list_all fits_stmt stmts) fit))
 
-pub compilable : (script : Script) (slots : List (List ℕ × ℕ)) → ReadsScript script.text script → All (IsListed slots) (names_in_script script) → All (IsCompilable slots) script.stmts
-compilable script slots reads listed =
+pub compilable : (script : Script) → ReadsScript script.text script → All IsCompilable script.stmts
+compilable script reads =
     let read = reads.1.1 in
-    let is = reads.1.2 in
-    subst (λ (stmts : List Stmt). All (IsListed slots) (flat_map stmt_names stmts) → All (IsCompilable slots) stmts) (sym is)
-    (compilable_all slots (kept reads.1.0) (lows reads.1.0 _ read.is.written read.low) read.is.fit) listed
+    subst (All IsCompilable) (sym reads.1.2) (compilable_all (kept reads.1.0) (lows reads.1.0 _ read.is.written read.low) read.is.fit)

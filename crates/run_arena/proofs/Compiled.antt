@@ -1,12 +1,15 @@
 -- A script that is compiled over the slots of its names does what it does in the scope of its node.
-use Rattle.std.proofs.Common.{◌≡◌, ℕ, ◌<◌, ◌≤◌, List, length, Option, Some, [], true, sym, ap, subst, ◌∙◌}
-use Rattle.std.specs.List.{All}
-use Rattle.std.proofs.lemmas.List.Elements.{All-map, All-same, All-weaker}
+use Rattle.std.proofs.Common.{◌≡◌, ℕ, ◌<◌, ◌≤◌, List, length, map, get_or, Option, Some, [], true, sym, ap, subst, ◌∙◌}
+use Rattle.std.specs.List.{All, Contains}
+use Rattle.std.proofs.lemmas.List.{get_or-map}
+use Rattle.std.proofs.lemmas.List.Elements.{All-map, All-nil, All-same, All-weaker}
 use Rattle.spec_script.specs.declared.syntax.Script.{Script}
 use Rattle.script_code.specs.declared.codes.Code.{Code}
-use Rattle.script_code.specs.Codes.{program}
-use Rattle.script_code.specs.Programs.{program_of}
-use Rattle.script_code.specs.Sources.{IsListed, slot_of as slot_among}
+use Rattle.script_code.specs.declared.codes.ScriptCode.{ScriptCode}
+use Rattle.script_code.specs.Codes.{IsCodeFor, needed, program, program_over}
+use Rattle.script_code.specs.Sources.{place_in}
+use Rattle.script_code.specs.Statements.{slot_in, slots_below}
+use Rattle.script_code.proofs.Numbered.{all_below, inserted, only_inserted, placed}
 use Rattle.spec_tree.specs.declared.term.Port.{Port}
 use Rattle.spec_tree.specs.declared.term.PortValue.{PortValue}
 use Rattle.spec_tree.specs.declared.term.PortValue.TheVariants.{Key}
@@ -18,11 +21,10 @@ use Rattle.spec_run.specs.Ports.{given_by}
 use Rattle.run_arena.specs.declared.source.Source.{Source}
 use Rattle.run_arena.specs.declared.source.Source.TheVariants.{Slot}
 use Rattle.run_arena.specs.Nodes.{IsCodeOf}
-use Rattle.run_arena.specs.Resolving.{AreNamed, named_slot, names_in_script, port_keys, view_in, with_slots}
+use Rattle.run_arena.specs.Resolving.{AreNamed, named_slot, names_in_script, port_keys, view_in}
 use Rattle.run_arena.specs.Sources.{slot_in_view, source_at, source_of}
 use Rattle.run_arena.proofs.Agreeing.{same_program}
 use Rattle.run_arena.proofs.Named.{named_slot_is, named_within, port_named}
-use Rattle.run_driver.proofs.Placing.{all_found, all_listed}
 use Rattle.std.proofs.lemmas.List.Elements.{All-head}
 
 module _ (tree : Tree) (world : World) (number : ℕ) where
@@ -30,23 +32,30 @@ module _ (tree : Tree) (world : World) (number : ℕ) where
   slot_below : (key : List ℕ) → is_named tree number key ≡ true → named_slot tree number key < length (slots tree)
   slot_below key named = subst (λ n. n < length (slots tree)) (sym (named_slot_is tree number key named)) (named_within tree number key named)
 
-  pub names_listed : (keys : List (List ℕ × ℕ)) (names : List (List ℕ)) → keys ≡ with_slots tree number names → All (IsListed keys) names
-  names_listed keys names is = subst (λ (ks : List (List ℕ × ℕ)). All (IsListed ks) names) (sym is) (all_listed (named_slot tree number) names)
-
-  pub compiled : (script : Script) (code : Code) (keys : List (List ℕ × ℕ)) → keys ≡ with_slots tree number (names_in_script script) → AreNamed tree number (names_in_script script)
-      → program code ≡ program_of (slot_among keys) script.stmts → ((n : ℕ) → All (λ pair. pair.1 < n) keys → (program code).reach ≤ n)
-      → IsCodeOf (view_in tree world number) script code
-  compiled script code keys is named means reaches =
+  -- the code of a script over the slots of its names
+  pub compiled : (script : Script) (made : ScriptCode) (code : Code) (table : List ℕ) → IsCodeFor script made → table ≡ map (named_slot tree number) made.names → AreNamed tree number (names_in_script script)
+      → program code ≡ program_over made table → needed code ≡ slots_below table → IsCodeOf (view_in tree world number) script code
+  compiled script made code table of is named same need =
       let names = names_in_script script in
-      let found : All (λ name. slot_among keys name ≡ named_slot tree number name) names =
-      subst (λ (ks : List (List ℕ × ℕ)). All (λ name. slot_among ks name ≡ named_slot tree number name) names) (sym is) (all_found (named_slot tree number) names) in
+      let f = named_slot tree number in
+      let view = view_in tree world number in
+      let Named = λ (key : List ℕ). is_named tree number key ≡ true in
+      let known : AreNamed tree number made.names = subst (AreNamed tree number) (sym of.names) (only_inserted Named [] names (All-nil Named) named) in
+      let has : All (Contains made.names) names = subst (λ (ns : List (List ℕ)). All (Contains ns) names) (sym of.names) (inserted [] names) in
       record {
-        meaning = means ∙ same_program (slot_among keys) (slot_in_view (view_in tree world number)) script.stmts
-            (λ k d within. found k d within ∙ named_slot_is tree number _ (named k d within));
-        reach = reaches (length (slots tree))
-            (All-same (λ (pair : List ℕ × ℕ). pair.1 < length (slots tree)) keys (with_slots tree number names) is
-            (All-map (λ (pair : List ℕ × ℕ). pair.1 < length (slots tree)) (λ (name : List ℕ). (name, named_slot tree number name)) names
-            (All-weaker (λ name. is_named tree number name ≡ true) (λ name. named_slot tree number name < length (slots tree)) slot_below names named)));
+        meaning = same ∙ of.meaning table ∙ same_program (λ name. slot_in table (place_in made.names name)) (slot_in_view view) script.stmts
+            (λ k d within.
+            let name = get_or names k d in
+            let p = placed made.names name (has k d within) in
+            ap (λ (t : List ℕ). slot_in t (place_in made.names name)) is
+            ∙ get_or-map f made.names (place_in made.names name) d 0 p.0
+            ∙ ap f (p.1 d)
+            ∙ named_slot_is tree number name (named k d within));
+        reach = subst (λ n. n ≤ length (slots tree)) (sym need)
+            (all_below table (length (slots tree))
+            (All-same (λ (slot : ℕ). slot < length (slots tree)) table (map f made.names) is
+            (All-map (λ (slot : ℕ). slot < length (slots tree)) f made.names
+            (All-weaker Named (λ name. f name < length (slots tree)) slot_below made.names known))));
       }
 
   -- the slot of a port that is given a key

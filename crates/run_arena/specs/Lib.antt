@@ -1,4 +1,5 @@
 pub mod Blocks
+pub mod Booked
 pub mod Ends
 pub mod Joining
 pub mod Laying

@@ -3,7 +3,7 @@ use Rattle.std.specs.Prelude.{◌≡◌, ℕ, ◌≤◌, List, [], length, map, 
 use Rattle.std.specs.List.{All}
 use Rattle.spec_script.specs.declared.syntax.Script.{Script}
 use Rattle.script_code.specs.declared.codes.Code.{Code}
-use Rattle.script_code.specs.Codes.{program}
+use Rattle.script_code.specs.Codes.{needed, program}
 use Rattle.script_code.specs.Programs.{program_of}
 use Rattle.spec_run.specs.declared.memory.Memo.TheVariants.{Nothing}
 use Rattle.spec_run.specs.declared.status.Status.TheVariants.{Idle}
@@ -68,7 +68,7 @@ kept_at kept uid = slice_index_or kept uid at_rest
 -- a code does what its script does in the scope of a view, and needs no more slots than the view has
 pub record IsCodeOf (view : View) (script : Script) (code : Code) : Type 0 where
   pub meaning : program code ≡ program_of (slot_in_view view) script.stmts
-  pub reach : (program code).reach ≤ length view.slots
+  pub reach : needed code ≤ length view.slots
 
 -- there is a code exactly where there is a script
 abbrev pub IsCompiled : View → Option Script → Option Code → Type 0

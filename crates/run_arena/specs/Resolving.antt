@@ -10,7 +10,6 @@ use Rattle.spec_world.specs.declared.world.World.{World}
 use Rattle.base_tables.specs.SlotTables.{is_named, scope_of, slot_of}
 use Rattle.spec_tree.specs.Boards.{slots, value_keys}
 use Rattle.spec_run.specs.Sites.{View}
-use Rattle.run_driver.specs.Places.{with_places}
 
 -- what a node in the scope of a number sees
 abbrev pub view_in : Tree → World → ℕ → View
@@ -19,10 +18,6 @@ view_in tree world number = record { rows = world.rows; facts = world.facts; slo
 -- the slot of a key in the scope of a number, and 0 where the tree does not name it there
 abbrev pub named_slot : Tree → ℕ → List ℕ → ℕ
 named_slot tree number key = unwrap_or (slot_of tree number key) 0
-
--- these keys with their slots
-abbrev pub with_slots : Tree → ℕ → List (List ℕ) → List (List ℕ × ℕ)
-with_slots tree number = with_places (named_slot tree number)
 
 -- a tree has a slot for each of these keys in the scope of a number
 abbrev pub AreNamed : Tree → ℕ → List (List ℕ) → Type 0

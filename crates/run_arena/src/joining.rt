@@ -12,6 +12,7 @@ ghost use Rattle.run_arena.specs.Nodes.{at_rest as rested};
 ghost use Rattle.run_arena.specs.Made.{IsArenaOf};
 
 use crate::arena::Arena;
+use crate::book::Book;
 use crate::frame::frames_for;
 use crate::laying::nodes_of;
 use crate::leaves::next_instance;
@@ -24,6 +25,7 @@ use run_driver::{Drivers, kind_of};
 use spec_run::{JoinFault, Memo, Status};
 use spec_tree::{Kind, Term, Tree};
 use std::alloc::Global;
+use std::cell::RefCell;
 use tree_board::Slots;
 
 /// Adds the ID of a node that is a leaf. The error is want of memory.
@@ -190,6 +192,7 @@ pub fn first_arena_of<D: Drivers>(
         tree,
         slots,
         world,
+        book: RefCell::new(Book::empty(alloc)),
         unguarded: Shared::of(alloc, no_guards())?,
     };
     arena_with(&setting, drivers, firsts, 1)
@@ -222,6 +225,7 @@ pub fn arena_of<D: Drivers>(
         tree,
         slots,
         world,
+        book: RefCell::new(Book::empty(alloc)),
         unguarded: Shared::of(alloc, no_guards())?,
     };
     let firsts = firsts_of(alloc, counts.as_slice(), runner)?;

@@ -17,6 +17,7 @@ use crate::resolving::Setting;
 use crate::scripts::give_scripts;
 use crate::source::Source;
 use crate::uids::Uids;
+use base_tables::nodes_in;
 use base_texts::{Items, NoMemory, Shared};
 use run_driver::Drivers;
 use spec_tree::{Kind, Term};
@@ -223,18 +224,6 @@ fn lay_terms<D: Drivers>(
         lay_term(term, setting, scope, drivers, next, nodes)?;
     }
     Ok(uids)
-}
-
-/// The number of nodes of a term.
-pub fn nodes_in(term: &Term) -> u32
-    requires { node_count term.now < 2 ^ 32 }
-    ensures { result ≡ node_count term.now }
-{
-    let mut count = 1;
-    for child in term.children.list() {
-        count += nodes_in(child);
-    }
-    count
 }
 
 /// The nodes of a tree by uid, or want of memory.

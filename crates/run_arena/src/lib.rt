@@ -4,6 +4,7 @@
 
 mod arena;
 mod block;
+mod book;
 mod frame;
 mod joining;
 pub mod laws;
@@ -25,7 +26,6 @@ pub use arena::{
 pub use block::{Block, block_for};
 pub use frame::Frame;
 pub use joining::{arena_of, first_arena_of};
-pub use laying::nodes_in;
 pub use nodes::{Kept, Node, ReadyGuards, ReadyLeaf};
 pub use notes::{Notes, notes_of};
 pub use rows::{IndexedWorld, index_world};

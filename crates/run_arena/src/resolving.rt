@@ -1,21 +1,23 @@
-ghost use Rattle.std.specs.Prelude.{◌≡◌, ◌∷◌, ◌++◌, [], length, IfOk, OnOk};
+ghost use Rattle.std.specs.Prelude.{◌≡◌, Some, length, map, IfOk};
 ghost use Rattle.std.specs.Option.{option_copied};
-ghost use Rattle.spec_script.specs.Scripts.{names_of, stmt_names};
+ghost use Rattle.script_code.specs.Codes.{IsCodeFor};
 ghost use Rattle.spec_tree.specs.Boards.{port_of, slots as cells};
 ghost use Rattle.base_tables.specs.SlotTables.{slot_table};
 ghost use Rattle.spec_tree.specs.Trees.{GuardsFit, ScriptFits};
 ghost use Rattle.run_arena.specs.Nodes.{AreCompiled, IsCompiled, has_after, has_before, no_guards};
-ghost use Rattle.run_arena.specs.Resolving.{AreNamed, GuardsAreNamed, named_slot, names_if_there, names_in_script, port_keys, view_in, with_slots};
+ghost use Rattle.run_arena.specs.Resolving.{AreNamed, GuardsAreNamed, named_slot, names_if_there, port_keys, view_in};
 ghost use Rattle.run_arena.specs.Sources.{IsSourceOf, source_at as source_in};
 
+use crate::book::Book;
 use crate::nodes::ReadyGuards;
 use crate::rows::IndexedWorld;
 use crate::source::Source;
 use base_texts::{Name, NoMemory, Shared};
-use script_code::{Code, compile};
-use spec_script::{Expr, Script, Stmt};
+use script_code::{Code, ScriptCode};
+use spec_script::Script;
 use spec_tree::{Guards, Port, PortValue, Tree};
 use std::alloc::Global;
+use std::cell::RefCell;
 use tree_board::{Slots, slot};
 
 /// What stays the same while a tree is laid out: where memory comes from, the tree with its slots, and
@@ -26,6 +28,8 @@ pub(crate) struct Setting<'a> {
     pub(crate) tree: &'a Tree,
     pub(crate) slots: &'a Slots,
     pub(crate) world: &'a IndexedWorld<'a>,
+    /// The scripts that were compiled so far.
+    pub(crate) book: RefCell<Book>,
     /// No guards, which all nodes without any share.
     pub(crate) unguarded: Shared<ReadyGuards>,
     pub(crate) ghost table: { slots.now ≡ slot_table tree.now },
@@ -39,71 +43,26 @@ fn slot_of(setting: &Setting, scope: u32, key: &Name) -> u32
     slot(setting.slots, scope, key).unwrap_or(0)
 }
 
-/// Adds a key with its slot. The error is want of memory.
-fn add_key(
-    key: &Name,
-    setting: &Setting,
-    scope: u32,
-    keys: &mut Vec<(Name, u32)>,
-) -> Result<(), NoMemory>
-    ensures { OnOk result (keys.new.items ≡ keys.old.items ++ with_slots setting.now.tree.now scope (key.now ∷ [])) }
+/// The slots of these names in the scope of this number, or want of memory.
+fn slots_of(names: &[Name], setting: &Setting, scope: u32) -> Result<Vec<u32>, NoMemory>
+    ensures { IfOk result (λ slots. slots.items ≡ map (named_slot setting.now.tree.now scope) names.now) }
 {
-    keys.push((key.copy(setting.alloc)?, slot_of(setting, scope, key)))?;
-    Ok(())
+    let mut slots = Vec::with_capacity(setting.alloc, names.len())?;
+    for name in names {
+        slots.push(slot_of(setting, scope, name))?;
+    }
+    Ok(slots)
 }
 
-/// Adds the names of an expression with their slots. The error is want of memory.
-fn add_expr(
-    e: &Expr,
-    setting: &Setting,
-    scope: u32,
-    keys: &mut Vec<(Name, u32)>,
-) -> Result<(), NoMemory>
-    ensures { OnOk result (keys.new.items ≡ keys.old.items ++ with_slots setting.now.tree.now scope (names_of e.now)) }
+/// The code of a script, or want of memory. It is in the book, unless that is in use.
+fn code_of(setting: &Setting, script: &Script) -> Result<ScriptCode, NoMemory>
+    requires { ScriptFits (Some script.now) }
+    ensures { IfOk result (IsCodeFor script.now) }
 {
-    match e {
-        Expr::Num(_) | Expr::Lit(_) => Ok(()),
-        Expr::Look(name) => add_key(name, setting, scope, keys),
-        Expr::Group(a) | Expr::Unary(_, a) => add_expr(a.get(), setting, scope, keys),
-        Expr::Binary(_, a, b) => {
-            add_expr(a.get(), setting, scope, keys)?;
-            add_expr(b.get(), setting, scope, keys)
-        }
-        Expr::Choose(a, b, c) => {
-            add_expr(a.get(), setting, scope, keys)?;
-            add_expr(b.get(), setting, scope, keys)?;
-            add_expr(c.get(), setting, scope, keys)
-        }
+    match setting.book.try_borrow_mut() {
+        Ok(mut book) => book.code_of(setting.alloc, script),
+        Err(_) => Err(NoMemory),
     }
-}
-
-/// Adds the names of a statement with their slots. The error is want of memory.
-fn add_stmt(
-    stmt: &Stmt,
-    setting: &Setting,
-    scope: u32,
-    keys: &mut Vec<(Name, u32)>,
-) -> Result<(), NoMemory>
-    ensures { OnOk result (keys.new.items ≡ keys.old.items ++ with_slots setting.now.tree.now scope (stmt_names stmt.now)) }
-{
-    match stmt {
-        Stmt::Create(name, e) | Stmt::Assign(name, e) | Stmt::Change(_, name, e) => {
-            add_key(name, setting, scope, keys)?;
-            add_expr(e, setting, scope, keys)
-        }
-        Stmt::Plain(e) => add_expr(e, setting, scope, keys),
-    }
-}
-
-/// The names of a script with their slots, or want of memory.
-fn keys_of(script: &Script, setting: &Setting, scope: u32) -> Result<Vec<(Name, u32)>, NoMemory>
-    ensures { IfOk result (λ keys. keys.items ≡ with_slots setting.now.tree.now scope (names_in_script script.now)) }
-{
-    let mut keys = Vec::new(setting.alloc);
-    for stmt in script.stmts.list() {
-        add_stmt(stmt, setting, scope, &mut keys)?;
-    }
-    Ok(keys)
 }
 
 /// A script compiled for the scope of this number, where there is one, or want of memory.
@@ -118,10 +77,10 @@ pub(crate) fn ready_script(
 {
     match script {
         None => Ok(None),
-        Some(shared) => {
-            let script = shared.get();
-            let keys = keys_of(script, setting, scope)?;
-            Ok(Some(compile(setting.alloc, script, keys.as_slice())?))
+        Some(script) => {
+            let code = code_of(setting, script.get())?;
+            let slots = slots_of(code.names(), setting, scope)?;
+            Ok(Some(code.over(setting.alloc, slots)?))
         }
     }
 }

@@ -27,5 +27,6 @@ pub fn inputs_may_be_left_out()
 
 /// Each row of a world that can be run can be made ready.
 pub fn rows_can_be_ready()
-    ensures { (facts : List Fact) (rows : List Row) (row : Row) → length facts ≤ 1024 → IsRunnableRow facts rows row → CanBeReady facts row }
+    ensures { (facts : List Fact) (rows : List Row) (row : Row) →
+        length facts ≤ 1024 → IsRunnableRow facts rows row → CanBeReady facts row }
 {}

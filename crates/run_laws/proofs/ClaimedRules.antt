@@ -20,7 +20,7 @@ use Rattle.spec_tree.specs.declared.term.Kind.TheVariants.{Sequence, SequenceWit
 use Rattle.spec_run.specs.Done.{Done, State}
 use Rattle.spec_run.specs.Rules.Answers.{is_seen, pass_on, same_answer}
 use Rattle.spec_run.specs.Rules.Choices.{chosen_branch, chosen_of, if_then_else, if_then_else_after, only_branch, switch, while_do_else_after}
-use Rattle.spec_run.specs.Rules.Decorators.{as_it_is, child_as, forced, inverted, is_late, keep_running_after, mark_of, run_once, run_once_after, since_of}
+use Rattle.spec_run.specs.Rules.OneVisit.{as_it_is, child_as, forced, inverted, is_late, keep_running_after, mark_of, run_once, run_once_after, since_of}
 use Rattle.spec_run.specs.Rules.Kinds.{rule}
 use Rattle.spec_run.specs.Rules.Parallels.{counted, counts_of, failure_holds, parallel, parallel_after, success_holds}
 use Rattle.spec_run.specs.Rules.Pipelines.{pipeline, pipeline_after, pipeline_end}

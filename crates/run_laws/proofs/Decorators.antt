@@ -12,7 +12,7 @@ use Rattle.spec_run.specs.declared.status.Status.{Status}
 use Rattle.spec_tree.specs.declared.term.Kind.{Kind}
 use Rattle.spec_tree.specs.declared.term.Kind.TheVariants.{KeepRunningUntilFailure, Timeout, Delay, RunOnce}
 use Rattle.spec_run.specs.Rules.Answers.{pass_on}
-use Rattle.spec_run.specs.Rules.Decorators.{as_it_is, child_as, delay, forced, inverted, is_late, keep_running, keep_running_after, run_once, run_once_after, timeout}
+use Rattle.spec_run.specs.Rules.OneVisit.{as_it_is, child_as, delay, forced, inverted, is_late, keep_running, keep_running_after, run_once, run_once_after, timeout}
 use Rattle.base_tables.specs.Shapes.{AllIdle, IsBegun, IsMark, NoneCompleted}
 use Rattle.spec_run.specs.Steps.{is_completed, keep, over, reset}
 use Rattle.spec_run.specs.Visit.{status_of}

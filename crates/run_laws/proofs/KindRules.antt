@@ -16,7 +16,7 @@ use Rattle.spec_tree.specs.declared.term.Term.{Term-F}
 use Rattle.spec_world.specs.declared.world.Row.{Row}
 use Rattle.spec_run.specs.Done.{Done, State, ends, follow}
 use Rattle.spec_run.specs.Ports.{is_negative, new_memo, number_at, picked}
-use Rattle.spec_run.specs.Rules.Decorators.{as_it_is, forced, inverted}
+use Rattle.spec_run.specs.Rules.OneVisit.{as_it_is, forced, inverted}
 use Rattle.spec_run.specs.Rules.Kinds.{rule}
 use Rattle.spec_run.specs.Rules.Parallels.{parallel}
 use Rattle.spec_run.specs.Rules.RoundRobins.{rotation_at, rotation_of, round_robin}

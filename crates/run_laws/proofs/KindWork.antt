@@ -13,7 +13,7 @@ use Rattle.spec_tree.specs.declared.term.Term.{Term-F}
 use Rattle.spec_run.specs.Done.{State, ends, follow}
 use Rattle.spec_run.specs.Ports.{picked}
 use Rattle.spec_run.specs.Rules.Choices.{chosen_of}
-use Rattle.spec_run.specs.Rules.Decorators.{as_it_is, forced, inverted, mark_of}
+use Rattle.spec_run.specs.Rules.OneVisit.{as_it_is, forced, inverted, mark_of}
 use Rattle.spec_run.specs.Rules.Kinds.{rule}
 use Rattle.spec_run.specs.Rules.Parallels.{counts_of}
 use Rattle.spec_run.specs.Rules.Rates.{pace_of}

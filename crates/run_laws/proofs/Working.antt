@@ -13,7 +13,7 @@ use Rattle.spec_run.specs.declared.status.RoundEnd.{RoundEnd}
 use Rattle.spec_run.specs.declared.status.RoundEnd.TheVariants.{AtChild, AfterLast}
 use Rattle.spec_run.specs.Rules.Answers.{is_seen, pass_on, same_answer}
 use Rattle.spec_run.specs.Rules.Choices.{chosen_branch, if_then_else, if_then_else_after, only_branch, switch, while_do_else, while_do_else_after}
-use Rattle.spec_run.specs.Rules.Decorators.{as_it_is, child_as, delay, is_late, keep_running, keep_running_after, run_once, run_once_after, since_of, timeout}
+use Rattle.spec_run.specs.Rules.OneVisit.{as_it_is, child_as, delay, is_late, keep_running, keep_running_after, run_once, run_once_after, since_of, timeout}
 use Rattle.spec_run.specs.Rules.Parallels.{counted, failure_holds, parallel, parallel_after, success_holds}
 use Rattle.spec_run.specs.Rules.Sequences.{passes, reactive_end, round, round_after, sequence_end, with_memory_end}
 use Rattle.spec_run.specs.Rules.Turns.{limit_of, one_more, turn_after, turn_again, turns, turns_on}

@@ -1,7 +1,7 @@
 ghost use Rattle.std.specs.Prelude.{ℕ, ◌≡◌, ◌+◌, ◌≤◌, ◌<◌, unwrap_or};
 ghost use Rattle.base_tables.specs.Moves.{FitsChild, GoesOn, child_on, hears_answer, if_then_else_on, makes, while_do_else_on};
 ghost use Rattle.spec_run.specs.Rules.Choices.{chosen_of, if_then_else, if_then_else_after, switch};
-ghost use Rattle.spec_run.specs.Rules.Decorators.{as_it_is};
+ghost use Rattle.spec_run.specs.Rules.OneVisit.{as_it_is};
 
 use crate::steps::{pass, reset_and_visit, visit};
 use spec_run::{Answer, Heard, Memo, Move, Span, Then};

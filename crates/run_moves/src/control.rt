@@ -64,7 +64,8 @@ fn answered(kind: Kind, memo: &mut Memo, n: u32, place: u32, answer: Answer) -> 
     requires control { IsTrue (is_control kind) }
     requires there { place < n }
     requires fits { FitsChild kind n memo.old place }
-    ensures next { (now : ℕ) → after kind n now memo.old (Heard.Answered place answer) ≡ makes (hears kind) (after kind n now) memo.new result }
+    ensures next { (now : ℕ) → after kind n now memo.old (Heard.Answered place answer)
+        ≡ makes (hears kind) (after kind n now) memo.new result }
     ensures onward { GoesOn kind n memo.old (place + 1) memo.new result.then }
 {
     match kind {

@@ -29,7 +29,8 @@ pub fn rounds_begin_at_the_kept_child()
 pub fn rounds_keep_an_index()
     ensures running { (n now at : ℕ) (memo : Memo) → after Sequence n now memo (Answered at Running) ≡ keep Running (Index at true) }
     ensures failure { (n now at : ℕ) (memo : Memo) → after Sequence n now memo (Answered at Failure) ≡ over Failure }
-    ensures with_memory { (n now at : ℕ) (memo : Memo) → after SequenceWithMemory n now memo (Answered at Running) ≡ keep Running (Index at true) }
+    ensures with_memory { (n now at : ℕ) (memo : Memo) →
+        after SequenceWithMemory n now memo (Answered at Running) ≡ keep Running (Index at true) }
     ensures memory_of_failure { (n now at : ℕ) (memo : Memo) → after SequenceWithMemory n now memo (Answered at Failure) ≡
         reset (From at) (keep Failure (Index at false)) }
 {}

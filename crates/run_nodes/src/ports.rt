@@ -6,7 +6,7 @@ ghost use Rattle.spec_run.specs.declared.memory.Memo.TheVariants as spec_memo;
 ghost use Rattle.spec_run.specs.Done.{State};
 ghost use Rattle.spec_run.specs.Ports.{is_negative, new_memo, next_pace, pace_start, parallel_start, picked, recoveries_start, since_start};
 ghost use Rattle.spec_run.specs.Ports.{skip_picked, threshold, turns_start, within};
-ghost use Rattle.spec_run.specs.Rules.Decorators.{mark_of};
+ghost use Rattle.spec_run.specs.Rules.OneVisit.{mark_of};
 ghost use Rattle.spec_run.specs.Rules.RoundRobins.{rotation_at, rotation_of};
 ghost use Rattle.spec_run.specs.Rules.Sequences.{index_of};
 ghost use Rattle.spec_run.specs.Sites.{Meaning, View};

@@ -2,7 +2,7 @@ ghost use Rattle.std.specs.Prelude.{◌≡◌, ◌≤◌, false, IfOk, OnOk, Opt
 ghost use Rattle.spec_script.specs.declared.syntax.Script.{Script};
 ghost use Rattle.script_code.specs.IntEntries.{IsAnswered};
 ghost use Rattle.base_texts.specs.Stops.{Gives};
-ghost use Rattle.script_code.specs.Codes.{program};
+ghost use Rattle.script_code.specs.Codes.{needed, program};
 ghost use Rattle.spec_tree.specs.declared.term.Term.{Term-F};
 ghost use Rattle.spec_run.specs.Done.{Done, State, follow};
 ghost use Rattle.spec_run.specs.NodeScripts.{goes_on, guard, guards_answer, posts, script_cause};
@@ -46,7 +46,7 @@ pub fn run_script(
     uid: u32,
     board: &mut Board,
 ) -> Result<Value, Stop<NodeFault>>
-    requires { (program code.now).reach ≤ length board.old }
+    requires { needed code.now ≤ length board.old }
     ensures settles { (term : Term-F Meaning) (view : View) (script : Script) (s : State) → IsCodeOf view script code.now →
         Settles result (on_board board.new s) (script_run (site_of term view uid) script (on_board board.old s)) }
     ensures slots { length board.new ≡ length board.old }
@@ -68,7 +68,7 @@ pub fn run_script(
 /// of memory.
 #[inline(never)]
 fn run_whole(alloc: Global, code: &Code, uid: u32, board: &mut Board) -> Result<(), Stop<NodeFault>>
-    requires { (program code.now).reach ≤ length board.old }
+    requires { needed code.now ≤ length board.old }
     ensures settles { (term : Term-F Meaning) (view : View) (script : Script) (s : State) → IsCodeOf view script code.now →
         Settles result (on_board board.new s) (script_if_there (site_of term view uid) (Some script) (on_board board.old s)) }
     ensures slots { length board.new ≡ length board.old }
@@ -88,7 +88,7 @@ pub fn run_for_writes(
     uid: u32,
     board: &mut Board,
 ) -> Result<(), Stop<NodeFault>>
-    requires { (program code.now).reach ≤ length board.old }
+    requires { needed code.now ≤ length board.old }
     ensures settles { (term : Term-F Meaning) (view : View) (script : Script) (s : State) → IsCodeOf view script code.now →
         Settles result (on_board board.new s) (script_if_there (site_of term view uid) (Some script) (on_board board.old s)) }
     ensures slots { length board.new ≡ length board.old }
@@ -149,7 +149,7 @@ fn whole_holds(
     uid: u32,
     board: &mut Board,
 ) -> Result<bool, Stop<NodeFault>>
-    requires { (program code.now).reach ≤ length board.old }
+    requires { needed code.now ≤ length board.old }
     ensures settles { (term : Term-F Meaning) (view : View) (script : Script) (s : State) → IsCodeOf view script code.now →
         Settles result (on_board board.new s) (script_holds (site_of term view uid) script (on_board board.old s)) }
     ensures slots { length board.new ≡ length board.old }
@@ -169,7 +169,7 @@ pub fn script_holds(
     uid: u32,
     board: &mut Board,
 ) -> Result<bool, Stop<NodeFault>>
-    requires { (program code.now).reach ≤ length board.old }
+    requires { needed code.now ≤ length board.old }
     ensures settles { (term : Term-F Meaning) (view : View) (script : Script) (s : State) → IsCodeOf view script code.now →
         Settles result (on_board board.new s) (script_holds (site_of term view uid) script (on_board board.old s)) }
     ensures slots { length board.new ≡ length board.old }

@@ -64,7 +64,7 @@ use Rattle.run_tick.specs.Asking.{back_with}
 use Rattle.run_tick.specs.Machine.{Turn}
 use Rattle.run_tick.specs.Machine as turn
 use Rattle.run_nodes.specs.Here.{children_in, ruled_in, ruled_on, site_at}
-use Rattle.run_tick.specs.declared.machine.Entered.TheVariants as entered
+use Rattle.run_tick.specs.declared.progress.Entered.TheVariants as entered
 use Rattle.run_tick.specs.Turns.{CanBegin, CanFollow, CanFollowOn, CanGoOn, CanPick, CanVisit, ChildrenSound, Comes, Goes, GoesTo, Starts, TakesTurn, cost, goes_by, kind_of, left_of, memory_in, number, started_in, turn_after, visit_in}
 use Rattle.run_tick.proofs.Children.{terms}
 use Rattle.run_tick.proofs.Bounds.{begins_less, visits_few}

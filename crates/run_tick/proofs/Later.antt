@@ -22,10 +22,10 @@ use Rattle.run_arena.specs.Stages.{IsSame, scene_on}
 use Rattle.run_arena.specs.Stands.{memory_of}
 use Rattle.run_arena.proofs.Staged.{later}
 use Rattle.run_nodes.specs.Here.{children_in, site_at}
-use Rattle.run_tick.specs.declared.machine.Entered.{Entered}
-use Rattle.run_tick.specs.declared.machine.Next.{Next}
-use Rattle.run_tick.specs.declared.machine.Next.TheVariants as next
-use Rattle.run_tick.specs.declared.machine.Reached.{Reached}
+use Rattle.run_tick.specs.declared.progress.Entered.{Entered}
+use Rattle.run_tick.specs.declared.progress.Next.{Next}
+use Rattle.run_tick.specs.declared.progress.Next.TheVariants as next
+use Rattle.run_tick.specs.declared.progress.Reached.{Reached}
 use Rattle.run_tick.specs.Machine.{Step, Turn}
 use Rattle.run_tick.specs.Turns.{CanVisit, Goes, GoesOnBy, GoingOn, Reaches, turned, visit_in}
 

@@ -45,8 +45,8 @@ use Rattle.run_laws.proofs.Resting.{Rested, span_leaves}
 use Rattle.base_tables.specs.Sound.{Sound}
 use Rattle.run_nodes.proofs.Following.{stops_with}
 use Rattle.run_arena.specs.declared.frame.Frame.{Frame}
-use Rattle.run_tick.specs.declared.machine.Entered.{Entered}
-use Rattle.run_tick.specs.declared.machine.Next.{Next}
+use Rattle.run_tick.specs.declared.progress.Entered.{Entered}
+use Rattle.run_tick.specs.declared.progress.Next.{Next}
 use Rattle.run_tick.specs.Asking.{back_with}
 use Rattle.run_tick.specs.Machine.{Step}
 use Rattle.run_tick.specs.Machine.{Turn}

@@ -25,9 +25,9 @@ use Rattle.run_arena.specs.Scenes.{Scene}
 use Rattle.run_arena.specs.Stands.{Beside, memory_of}
 use Rattle.run_nodes.proofs.Following.{stops_with}
 use Rattle.run_arena.specs.declared.frame.Frame.{Frame}
-use Rattle.run_tick.specs.declared.machine.Next.{Next}
-use Rattle.run_tick.specs.declared.machine.Next.TheVariants as next
-use Rattle.run_tick.specs.declared.machine.Reached.{Reached}
+use Rattle.run_tick.specs.declared.progress.Next.{Next}
+use Rattle.run_tick.specs.declared.progress.Next.TheVariants as next
+use Rattle.run_tick.specs.declared.progress.Reached.{Reached}
 use Rattle.run_tick.specs.Machine as turn
 use Rattle.run_tick.specs.Turns.{EntersChild, Going, GoingOn, OnStack, Reaches, ReachesTo, below_of, cost, frame_work, next_work, stack_work, step_of, turn_of, turn_work}
 use Rattle.run_tick.proofs.Stacks.{entered}

@@ -33,12 +33,12 @@ use Rattle.run_arena.specs.Stands.{Beside, memory_of, uid_of, view_under, writte
 use Rattle.run_arena.specs.Ends.{Meets, StaysFit}
 use Rattle.run_nodes.specs.Here.{children_in, ruled_in, site_at}
 use Rattle.run_arena.specs.declared.frame.Frame.{Frame}
-use Rattle.run_tick.specs.declared.machine.Entered.{Entered}
-use Rattle.run_tick.specs.declared.machine.Next.{Next}
-use Rattle.run_tick.specs.declared.machine.Next.TheVariants as next
-use Rattle.run_tick.specs.declared.machine.Entered.TheVariants.{GoesOn, Answers}
-use Rattle.run_tick.specs.declared.machine.Reached.{Reached}
-use Rattle.run_tick.specs.declared.machine.Reached.TheVariants as reached
+use Rattle.run_tick.specs.declared.progress.Entered.{Entered}
+use Rattle.run_tick.specs.declared.progress.Next.{Next}
+use Rattle.run_tick.specs.declared.progress.Next.TheVariants as next
+use Rattle.run_tick.specs.declared.progress.Entered.TheVariants.{GoesOn, Answers}
+use Rattle.run_tick.specs.declared.progress.Reached.{Reached}
+use Rattle.run_tick.specs.declared.progress.Reached.TheVariants as reached
 use Rattle.run_tick.specs.AtOnce.{child_at_once}
 use Rattle.run_tick.specs.Machine.{Step, Turn}
 use Rattle.run_tick.specs.Machine as turn

@@ -11,7 +11,7 @@ ghost use Rattle.run_arena.specs.Stages.{IsSame};
 ghost use Rattle.run_tick.specs.Asking.{AsksFirst, back_with, hears_first, waits_first};
 ghost use Rattle.run_tick.specs.Turns.{CanVisitOn, LeavesLess, StepsOn, TakesTurn, started_on, turned, visit_on};
 
-use crate::machine::Entered;
+use crate::progress::Entered;
 use base_texts::Stop;
 use run_arena::{ReadyGuards, Stage, node, set_memo, set_status};
 use run_driver::Drivers;

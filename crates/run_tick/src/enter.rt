@@ -11,7 +11,7 @@ ghost use Rattle.run_nodes.specs.Here.{ruled_on};
 ghost use Rattle.run_tick.specs.Turns.{CanFollowOn, CanVisitOn, LeavesLess, StartsOn, TakesTurn, turned, visit_on};
 
 use crate::asking::{ask, asks_first};
-use crate::machine::Entered;
+use crate::progress::Entered;
 use base_tables::has_rule;
 use base_texts::Stop;
 use run_arena::{Stage, node, set_status};

@@ -3,9 +3,9 @@
 
 mod asking;
 mod enter;
-mod machine;
-mod moves;
-mod onward;
+mod making_moves;
+mod next_moves;
+mod progress;
 mod visiting;
 
 pub use visiting::tick;

@@ -16,14 +16,14 @@ ghost use Rattle.run_arena.specs.Ends.{StaysFit};
 ghost use Rattle.run_arena.specs.Scenes.{Scene};
 ghost use Rattle.run_arena.specs.Stages.{IsSame, MeetsOn, scene_on};
 ghost use Rattle.run_arena.specs.Stands.{Beside, memory_of};
-ghost use Rattle.run_tick.specs.declared.machine.Next.TheVariants as next;
-ghost use Rattle.run_tick.specs.declared.machine.Reached.TheVariants as reached;
+ghost use Rattle.run_tick.specs.declared.progress.Next.TheVariants as next;
+ghost use Rattle.run_tick.specs.declared.progress.Reached.TheVariants as reached;
 ghost use Rattle.run_tick.specs.Turns.{CameOn, CanVisitOn, ReachesOn, goes_at_once, next_work, reached_work, step_of, top_of, visit_on};
 ghost use Rattle.run_tick.specs.Work.{begun_by};
 
 use crate::enter::enter;
-use crate::machine::{Entered, Next, Reached};
-use crate::onward::{go_on, goes_on_at_once};
+use crate::making_moves::{go_on, goes_on_at_once};
+use crate::progress::{Entered, Next, Reached};
 use base_texts::{NoMemory, Stop};
 use run_arena::{Frame, Stage};
 use run_driver::Drivers;

@@ -1,7 +1,9 @@
+pub mod Emitted
 pub mod Fitting
 pub mod Given
 pub mod Means
 pub mod Meets
+pub mod Numbered
 pub mod Patches
 pub mod Reaches
 pub mod Same

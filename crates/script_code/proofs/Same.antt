@@ -1,9 +1,11 @@
 -- The code of a script means what the script means.
-use Rattle.std.proofs.Common.{◌≡◌, ℕ, ℤ, ◌+◌, max, List, [], ◌∷◌, ◌++◌, map, length, refl, sym, ap, ◌∙◌, subst, arith, pos, Bool, ◌||◌, take, get_or, ◌<◌}
+use Rattle.std.proofs.Common.{◌≡◌, ℕ, ℤ, ◌+◌, max, List, [], ◌∷◌, ◌++◌, map, length, refl, sym, ap, ◌∙◌, subst, arith, pos, Bool, ◌||◌, take, get_or, ◌<◌, ◌≤◌}
 use Rattle.std.proofs.lemmas.Grind.{take_at_read}
 use Rattle.std.proofs.lemmas.List.{map-append}
 use Rattle.std.proofs.lemmas.List.Sums.{sum_by-cons}
 use Rattle.std.specs.Prelude.{Option}
+use Rattle.std.specs.List.{All}
+use Rattle.std.proofs.lemmas.List.Elements.{All-head, All-tail}
 use Rattle.spec_script.specs.declared.value.Value.{Value}
 use Rattle.spec_script.specs.declared.value.Value.TheVariants.{Int}
 use Rattle.spec_script.specs.declared.syntax.BinOp.{BinOp}
@@ -12,10 +14,8 @@ use Rattle.spec_script.specs.declared.syntax.Expr.{Expr, ind-Expr, map-Expr, fol
 use Rattle.spec_script.specs.declared.syntax.Expr.TheOpen.{Expr-F, Num, Lit, Look, Group, Unary, Binary, Choose}
 use Rattle.spec_script.specs.declared.syntax.Stmt.{Stmt}
 use Rattle.spec_script.specs.declared.syntax.Stmt.TheVariants as stmt
-use Rattle.spec_script.specs.Entries.{entry_of}
 use Rattle.spec_script.specs.Evaluation.{stmts_of, written, if_there, followed}
-use Rattle.spec_script.specs.Numbers.{greatest}
-use Rattle.spec_script.specs.Scripts.{texts_step, texts_of}
+use Rattle.spec_script.specs.Scripts.{names_of, stmt_names, texts_of, texts_step}
 use Rattle.script_code.specs.declared.codes.StmtCode.TheVariants as coded
 use Rattle.script_code.specs.declared.instr.Instr.{Instr}
 use Rattle.script_code.specs.declared.instr.Instr.TheVariants as instr
@@ -24,10 +24,11 @@ use Rattle.script_code.specs.Meeting.{is_ok_and, stmt_meets, stmts_meet}
 use Rattle.script_code.specs.Postfixes.{operator, with_number, applied, ended, between, operation, choice_code, code_step, code_of}
 use Rattle.script_code.specs.Programs.{Formula, Program, formula_of, statement_of, program_of}
 use Rattle.script_code.specs.Running.{instr_reach, code_reach, instr_texts, code_texts}
-use Rattle.script_code.specs.Sources.{reach_step, reach_of, stmt_reach}
-use Rattle.script_code.specs.Statements.{code_formula, stmt_program, runs, one_meets, one_by_one}
+use Rattle.script_code.specs.Sources.{reach_of, reach_step}
+use Rattle.script_code.specs.Statements.{code_formula, entry_at, one_by_one, one_meets, runs, stmt_code_reach, stmt_program}
 use Rattle.script_code.proofs.Means.{expr_value, change_value}
 use Rattle.script_code.proofs.Meets.{expr_met, change_met}
+use Rattle.script_code.proofs.Reaches.{reach_below}
 use Rattle.script_code.proofs.Standing.{reach-append, texts-append}
 
 operator_reach : (op : BinOp) → instr_reach (operator op) ≡ 0
@@ -167,59 +168,85 @@ module _ (names : List ℕ → ℕ) where
     meets = λ look. expr_met look names e i;
   }
 
+-- statements, where the numbers of names have these slots
+module _ (slots : ℕ → ℕ) (names : List ℕ → ℕ) where
+  abbrev seen : List ℕ → ℕ
+  seen name = slots (names name)
+
   -- a statement that writes a value, new or not, by what gives the value
   abbrev created : ℕ → Formula → Program
-  created k f = record { run = λ entries. written k entries (f.value (entry_of entries)); reach = max (k + 1) f.reach; meets = λ entries. f.meets (entry_of entries) }
+  created k f = record { run = λ entries. written (slots k) entries (f.value (entry_at slots entries)); meets = λ entries. f.meets (entry_at slots entries) }
 
   -- a statement that writes a value where there is one
   abbrev assigned : ℕ → Formula → Program
-  assigned k f = record { run = λ entries. written k entries (if_there k entries (f.value (entry_of entries))); reach = max (k + 1) f.reach; meets = λ entries. f.meets (entry_of entries) }
+  assigned k f = record { run = λ entries. written (slots k) entries (if_there (slots k) entries (f.value (entry_at slots entries))); meets = λ entries. f.meets (entry_at slots entries) }
 
   abbrev plain : Formula → Program
-  plain f = record { run = λ entries. record { answer = f.value (entry_of entries); entries = entries }; reach = f.reach; meets = λ entries. f.meets (entry_of entries) }
+  plain f = record { run = λ entries. record { answer = f.value (entry_at slots entries); entries = entries }; meets = λ entries. f.meets (entry_at slots entries) }
 
-  pub same_create : (name : List ℕ) (e : Expr) (p : Postfix) → p.instrs ≡ code_of names e → stmt_program (coded.Create (names name) p) ≡ statement_of names (stmt.Create name e)
-  same_create name e p same = ap (created (names name)) (ap code_formula same ∙ same_formula e)
+  pub same_create : (name : List ℕ) (e : Expr) (p : Postfix) → p.instrs ≡ code_of names e → stmt_program slots (coded.Create (names name) p) ≡ statement_of seen (stmt.Create name e)
+  same_create name e p same = ap (created (names name)) (ap code_formula same ∙ same_formula names e)
 
-  pub same_assign : (name : List ℕ) (e : Expr) (p : Postfix) → p.instrs ≡ code_of names e → stmt_program (coded.Assign (names name) p) ≡ statement_of names (stmt.Assign name e)
-  same_assign name e p same = ap (assigned (names name)) (ap code_formula same ∙ same_formula e)
+  pub same_assign : (name : List ℕ) (e : Expr) (p : Postfix) → p.instrs ≡ code_of names e → stmt_program slots (coded.Assign (names name) p) ≡ statement_of seen (stmt.Assign name e)
+  same_assign name e p same = ap (assigned (names name)) (ap code_formula same ∙ same_formula names e)
 
-  pub same_plain : (e : Expr) (p : Postfix) → p.instrs ≡ code_of names e → stmt_program (coded.Plain p) ≡ statement_of names (stmt.Plain e)
-  same_plain e p same = ap plain (ap code_formula same ∙ same_formula e)
+  pub same_plain : (e : Expr) (p : Postfix) → p.instrs ≡ code_of names e → stmt_program slots (coded.Plain p) ≡ statement_of seen (stmt.Plain e)
+  same_plain e p same = ap plain (ap code_formula same ∙ same_formula names e)
 
-  -- an operator between a slot and an expression, and its assignment
-  same_changed : (op : BinOp) (name : List ℕ) (e : Expr) → assigned (names name) (code_formula (between op (instr.Slot (names name) ∷ []) (code_of names e))) ≡ statement_of names (stmt.Change op name e)
+  -- an operator between an entry and an expression, and its assignment
+  same_changed : (op : BinOp) (name : List ℕ) (e : Expr) → assigned (names name) (code_formula (between op (instr.Slot (names name) ∷ []) (code_of names e))) ≡ statement_of seen (stmt.Change op name e)
   same_changed op name e =
       let k = names name in
-      let front : List Instr = instr.Slot k ∷ [] in
-      let reach : max (k + 1) (code_reach (between op front (code_of names e))) ≡ max (k + 1) (reach_of names e) = omega (arith, reach-between op front (code_of names e), same_reach e) in
       λ i. record {
-        run = λ entries. written k entries (if_there k entries (change_value (entry_of entries) names op k e i));
-        reach = reach i;
-        meets = λ entries. change_met (entry_of entries) names op k e i;
+        run = λ entries. written (slots k) entries (if_there (slots k) entries (change_value (entry_at slots entries) names op k e i));
+        meets = λ entries. change_met (entry_at slots entries) names op k e i;
       }
 
-  pub same_change : (op : BinOp) (name : List ℕ) (e : Expr) (p : Postfix) → p.instrs ≡ between op (instr.Slot (names name) ∷ []) (code_of names e) → stmt_program (coded.Assign (names name) p) ≡ statement_of names (stmt.Change op name e)
+  pub same_change : (op : BinOp) (name : List ℕ) (e : Expr) (p : Postfix) → p.instrs ≡ between op (instr.Slot (names name) ∷ []) (code_of names e) → stmt_program slots (coded.Assign (names name) p) ≡ statement_of seen (stmt.Change op name e)
   same_change op name e p same = ap (λ code. assigned (names name) (code_formula code)) same ∙ same_changed op name e
 
+-- the numbers in a statement's code are below a bound, where those of its names are
+module _ (n : ℕ) (names : List ℕ → ℕ) where
+  abbrev AreBelow : List (List ℕ) → Type 0
+  AreBelow = All (λ name. names name < n)
+
+  within : (e : Expr) (code : List Instr) → code ≡ code_of names e → AreBelow (names_of e) → code_reach code ≤ n
+  within e code is below = omega (arith, ap code_reach is, same_reach names e, reach_below n names e below)
+
+  pub reach_create : (name : List ℕ) (e : Expr) (p : Postfix) → p.instrs ≡ code_of names e → AreBelow (stmt_names (stmt.Create name e)) → stmt_code_reach (coded.Create (names name) p) ≤ n
+  reach_create name e p is below = omega (arith, All-head (λ name. names name < n) name (names_of e) below, within e p.instrs is (All-tail (λ name. names name < n) name (names_of e) below))
+
+  pub reach_assign : (name : List ℕ) (e : Expr) (p : Postfix) → p.instrs ≡ code_of names e → AreBelow (stmt_names (stmt.Assign name e)) → stmt_code_reach (coded.Assign (names name) p) ≤ n
+  reach_assign name e p is below = omega (arith, All-head (λ name. names name < n) name (names_of e) below, within e p.instrs is (All-tail (λ name. names name < n) name (names_of e) below))
+
+  pub reach_change : (op : BinOp) (name : List ℕ) (e : Expr) (p : Postfix) → p.instrs ≡ between op (instr.Slot (names name) ∷ []) (code_of names e) → AreBelow (stmt_names (stmt.Change op name e))
+      → stmt_code_reach (coded.Assign (names name) p) ≤ n
+  reach_change op name e p is below =
+      omega (
+        arith,
+        All-head (λ name. names name < n) name (names_of e) below,
+        ap code_reach is,
+        reach-between op (instr.Slot (names name) ∷ []) (code_of names e),
+        within e (code_of names e) refl (All-tail (λ name. names name < n) name (names_of e) below),
+      )
+
+  pub reach_plain : (e : Expr) (p : Postfix) → p.instrs ≡ code_of names e → AreBelow (names_of e) → stmt_code_reach (coded.Plain p) ≤ n
+  reach_plain e p is below = within e p.instrs is below
+
+-- statements one after the other
+module _ (names : List ℕ → ℕ) where
   same_runs : (last : Value) (stmts : List Stmt) (entries : List (Option Value)) → runs last (map (statement_of names) stmts) entries ≡ stmts_of names last stmts entries
   same_runs last [] entries = refl
   same_runs last (s ∷ stmts) entries = λ i. followed ((statement_of names s).run entries).answer ((statement_of names s).run entries).entries (λ value left. same_runs value stmts left i)
-
-  same_reaches : (stmts : List Stmt) → greatest (map (λ p. p.reach) (map (statement_of names) stmts)) ≡ greatest (map (stmt_reach names) stmts)
-  same_reaches [] = refl
-  same_reaches (s ∷ stmts) = ap (max (stmt_reach names s)) (same_reaches stmts)
 
   same_meetings : (stmts : List Stmt) (entries : List (Option Value)) → one_meets (map (statement_of names) stmts) entries ≡ stmts_meet names stmts entries
   same_meetings [] entries = refl
   same_meetings (s ∷ stmts) entries =
       λ i. stmt_meets names s entries || is_ok_and ((statement_of names s).run entries).answer (λ _. same_meetings stmts ((statement_of names s).run entries).entries i)
 
-  -- statements one after the other
   pub same_program : (stmts : List Stmt) → one_by_one (map (statement_of names) stmts) ≡ program_of names stmts
   same_program stmts = λ i. record {
     run = λ entries. same_runs (Int (pos 0)) stmts entries i;
-    reach = same_reaches stmts i;
     meets = λ entries. same_meetings stmts entries i;
   }
 

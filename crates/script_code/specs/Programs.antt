@@ -1,14 +1,13 @@
 -- What the code of a script or an expression means: what it gives, and what it needs.
-use Rattle.std.specs.Prelude.{ℕ, Bool, List, Option, Result, map}
+use Rattle.std.specs.Prelude.{ℕ, Bool, List, Option, Result}
 use Rattle.spec_script.specs.declared.value.Value.{Value}
 use Rattle.spec_script.specs.declared.syntax.Expr.{Expr}
 use Rattle.spec_script.specs.declared.syntax.Stmt.{Stmt}
 use Rattle.spec_script.specs.declared.fault.ExecFault.{ExecFault}
 use Rattle.spec_script.specs.Evaluation.{Run, eval_of, stmt_of, exec_of}
 use Rattle.script_code.specs.Meeting.{expr_meets, stmt_meets, stmts_meet}
-use Rattle.script_code.specs.Sources.{reach_of, stmt_reach}
+use Rattle.script_code.specs.Sources.{reach_of}
 use Rattle.spec_script.specs.Scripts.{texts_of}
-use Rattle.spec_script.specs.Numbers.{greatest}
 
 -- the meaning of an expression's code
 pub record Formula : Type 0 where
@@ -34,8 +33,6 @@ formula_of names e = record {
 pub record Program : Type 0 where
   -- what it gives and leaves over these entries
   pub run : List (Option Value) → Run
-  -- how many slots it needs
-  pub reach : ℕ
   -- whether it meets a text over these entries
   pub meets : List (Option Value) → Bool
 
@@ -43,10 +40,9 @@ pub record Program : Type 0 where
 abbrev pub program_of : (List ℕ → ℕ) → List Stmt → Program
 program_of names stmts = record {
   run = exec_of names stmts;
-  reach = greatest (map (stmt_reach names) stmts);
   meets = stmts_meet names stmts;
 }
 
 -- the meaning of a statement, with its names looked up through slots
 abbrev pub statement_of : (List ℕ → ℕ) → Stmt → Program
-statement_of names s = record { run = stmt_of names s; reach = stmt_reach names s; meets = stmt_meets names s }
+statement_of names s = record { run = stmt_of names s; meets = stmt_meets names s }

@@ -1,13 +1,11 @@
 -- What is asked of a script that is compiled: its names, its height, its operators; and what it needs.
-use Rattle.std.specs.Prelude.{ℕ, ◌+◌, ◌≤◌, max, List, [], ◌∷◌, map, if◌then◌else◌}
+use Rattle.std.specs.Prelude.{ℕ, ◌+◌, ◌≤◌, max, List, [], ◌∷◌, map, if◌then◌else◌, position, unwrap_or}
 use Rattle.std.specs.List.{All, Contains}
 use Rattle.std.specs.Str.{bytes_eq}
 use Rattle.spec_script.specs.declared.syntax.Expr.{Expr, fold-Expr}
 use Rattle.spec_script.specs.declared.syntax.Expr.TheOpen.{Expr-F, Num, Lit, Look, Group, Unary, Binary, Choose}
 use Rattle.spec_script.specs.declared.syntax.Stmt.{Stmt}
-use Rattle.spec_script.specs.declared.syntax.Stmt.TheVariants.{Create, Assign, Change, Plain}
 use Rattle.spec_script.specs.Grammar.{expr_of, height}
-use Rattle.spec_script.specs.Scripts.{stmt_names}
 use Rattle.script_code.specs.Arithmetic.{ChangesByArithmetic}
 
 -- the slot of a name: that of its first pair, and 0 where no pair has it
@@ -19,9 +17,12 @@ slot_of (pair ∷ pairs) name = if bytes_eq pair.0 name then pair.1 else slot_of
 abbrev pub IsListed : List (List ℕ × ℕ) → List ℕ → Type 0
 IsListed slots name = Contains (map (λ pair. pair.0) slots) name
 
+-- the place of a name in a list of names, and 0 where it is not there
+abbrev pub place_in : List (List ℕ) → List ℕ → ℕ
+place_in names name = unwrap_or (position (bytes_eq name) names) 0
+
 -- what is asked of a statement that is compiled
-pub record IsCompilable (slots : List (List ℕ × ℕ)) (s : Stmt) : Type 0 where
-  pub named : All (IsListed slots) (stmt_names s)
+pub record IsCompilable (s : Stmt) : Type 0 where
   pub low : height (expr_of s) ≤ 64
   pub arithmetic : ChangesByArithmetic s
 
@@ -37,10 +38,3 @@ reach_step names (Choose a b c) = max a (max b c)
 -- how many slots an expression needs: each of its slots is below
 abbrev pub reach_of : (List ℕ → ℕ) → Expr → ℕ
 reach_of names = fold-Expr ℕ (reach_step names)
-
--- how many slots a statement needs
-abbrev pub stmt_reach : (List ℕ → ℕ) → Stmt → ℕ
-stmt_reach names (Create name e) = max (names name + 1) (reach_of names e)
-stmt_reach names (Assign name e) = max (names name + 1) (reach_of names e)
-stmt_reach names (Change op name e) = max (names name + 1) (reach_of names e)
-stmt_reach names (Plain e) = reach_of names e

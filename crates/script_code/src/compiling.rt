@@ -1,33 +1,24 @@
-ghost use Rattle.std.specs.Prelude.{◌≡◌, ◌+◌, ◌<◌, ◌≤◌, ℕ, List, [], ◌∷◌, ◌++◌, true, IfOk, IsTrue, OnOk, length};
-ghost use Rattle.std.specs.List.{All};
+ghost use Rattle.std.specs.Prelude.{◌≡◌, ◌+◌, ◌<◌, ◌≤◌, ℕ, List, [], ◌∷◌, ◌++◌, true, IfOk, IsTrue, OnOk, length, map};
+ghost use Rattle.std.specs.List.{All, flat_map};
+ghost use Rattle.std.specs.Str.{bytes_eq};
+ghost use Rattle.indexmap.specs.IndexSet.{insert_all};
 ghost use Rattle.script_code.specs.declared.instr.Instr.{Instr as Turn};
 ghost use Rattle.script_code.specs.declared.instr.Instr.TheVariants.{Slot, Unless, Skip};
-ghost use Rattle.script_code.specs.Codes.{program, formula};
-ghost use Rattle.script_code.specs.Programs.{program_of, formula_of, statement_of};
+ghost use Rattle.script_code.specs.Codes.{IsCodeFor, formula};
+ghost use Rattle.script_code.specs.Programs.{formula_of, statement_of};
 ghost use Rattle.spec_script.specs.Grammar.{height};
 ghost use Rattle.script_code.specs.Postfixes.{applied, begun, between, code_of, ended, has_jump, left_number as left_number_of, lone_number as lone_number_of, operator as operator_of, with_number as with_number_of};
-ghost use Rattle.script_code.specs.Sources.{slot_of, IsListed, IsCompilable};
-ghost use Rattle.spec_script.specs.Scripts.{names_of};
-ghost use Rattle.script_code.specs.Statements.{stmt_program};
+ghost use Rattle.script_code.specs.Sources.{IsCompilable, IsListed, place_in, slot_of};
+ghost use Rattle.spec_script.specs.Scripts.{names_of, stmt_names};
+ghost use Rattle.script_code.specs.Statements.{stmt_code_reach, stmt_program};
 
-use crate::codes::{Code, ExprCode, StmtCode};
+use crate::codes::{ExprCode, ScriptCode, StmtCode};
 use crate::instr::Instr;
+use crate::places::{Numbering, Pairs, Places};
 use crate::postfix::Postfix;
-use base_texts::{Items, Name, NoMemory};
+use base_texts::{Items, Name, NoMemory, Shared};
 use spec_script::{BinOp, Expr, Script, Stmt};
 use std::alloc::Global;
-
-/// The slot of a name: that of its first pair.
-fn slot_at(slots: &[(Name, u32)], name: &Name) -> u32
-    ensures { result ≡ slot_of slots.now name.now }
-{
-    for (n, slot) in slots {
-        if n == name {
-            return *slot;
-        }
-    }
-    0
-}
 
 /// One more instruction.
 fn put(code: &mut Vec<Instr>, instr: Instr) -> Result<(), NoMemory>
@@ -145,46 +136,48 @@ fn aim(test: usize, end: usize, code: &mut Vec<Instr>)
     code[end] = Instr::Skip(code.len() - end - 1);
 }
 
-/// Puts the code of an expression after what is there, with its names replaced by their slots.
-fn emit(
+/// Puts the code of an expression after what is there, with their places for its names.
+fn emit<P: Places>(
     alloc: Global,
     e: &Expr,
-    slots: &[(Name, u32)],
+    places: &P,
     code: &mut Vec<Instr>,
 ) -> Result<(), NoMemory>
-    ensures { OnOk result (code.new.items ≡ code.old.items ++ code_of (slot_of slots.now) e.now) }
+    ensures { OnOk result (code.new.items ≡ code.old.items ++ code_of (P.place places.now) e.now) }
 {
     match e {
         Expr::Num(n) => put(code, Instr::Number(*n)),
         Expr::Lit(t) => put(code, Instr::Text(t.copy(alloc)?)),
-        Expr::Look(name) => put(code, Instr::Slot(slot_at(slots, name))),
-        Expr::Group(a) => emit(alloc, a.get(), slots, code),
+        Expr::Look(name) => put(code, Instr::Slot(places.place_of(name))),
+        Expr::Group(a) => emit(alloc, a.get(), places, code),
         Expr::Unary(op, a) => {
-            emit(alloc, a.get(), slots, code)?;
-            put(code, Instr::Unary(*op))
+            emit(alloc, a.get(), places, code)?;
+            put(code, Instr::Unary(*op))?;
+            Ok(())
         }
         Expr::Binary(op, a, b) => {
             let start = code.len();
-            emit(alloc, a.get(), slots, code)?;
+            emit(alloc, a.get(), places, code)?;
             if let Some(n) = left_number(*op, &code[start..]) {
                 code.truncate(start);
-                emit(alloc, b.get(), slots, code)?;
-                return put(code, with_number(*op, n));
+                emit(alloc, b.get(), places, code)?;
+                put(code, with_number(*op, n))?;
+                return Ok(());
             }
             let place = code.len();
             begin(*op, code)?;
-            emit(alloc, b.get(), slots, code)?;
+            emit(alloc, b.get(), places, code)?;
             end(*op, place, code)?;
             Ok(())
         }
         Expr::Choose(a, b, c) => {
-            emit(alloc, a.get(), slots, code)?;
+            emit(alloc, a.get(), places, code)?;
             let test = code.len();
             put(code, Instr::Unless(0))?;
-            emit(alloc, b.get(), slots, code)?;
+            emit(alloc, b.get(), places, code)?;
             let end = code.len();
             put(code, Instr::Skip(0))?;
-            emit(alloc, c.get(), slots, code)?;
+            emit(alloc, c.get(), places, code)?;
             aim(test, end, code);
             Ok(())
         }
@@ -212,34 +205,36 @@ fn is_low(e: &Expr, most: u32) -> bool
 }
 
 /// The code of an expression.
-fn postfix(alloc: Global, e: &Expr, slots: &[(Name, u32)]) -> Result<Postfix, NoMemory>
+fn postfix<P: Places>(alloc: Global, e: &Expr, places: &P) -> Result<Postfix, NoMemory>
     requires { height e.now ≤ 64 }
-    ensures { IfOk result (λ p. p.instrs ≡ code_of (slot_of slots.now) e.now) }
+    ensures { IfOk result (λ p. p.instrs ≡ code_of (P.place places.now) e.now) }
 {
     let mut code = Vec::new(alloc);
-    emit(alloc, e, slots, &mut code)?;
+    emit(alloc, e, places, &mut code)?;
+    code.shrink_to_fit();
     Ok(Postfix {
         instrs: Items::of(code),
         is_low: is_low(e, 8),
     })
 }
 
-/// The code of an operator between a slot and an expression.
-fn change(
+/// The code of an operator between the entry of a name and an expression.
+fn change<P: Places>(
     alloc: Global,
     op: BinOp,
-    slot: u32,
+    place: u32,
     e: &Expr,
-    slots: &[(Name, u32)],
+    places: &P,
 ) -> Result<Postfix, NoMemory>
     requires { height e.now ≤ 64 }
-    ensures { IfOk result (λ p. p.instrs ≡ between op (Slot slot ∷ []) (code_of (slot_of slots.now) e.now)) }
+    ensures { IfOk result (λ p. p.instrs ≡ between op (Slot place ∷ []) (code_of (P.place places.now) e.now)) }
 {
     let mut code = Vec::new(alloc);
-    put(&mut code, Instr::Slot(slot))?;
+    put(&mut code, Instr::Slot(place))?;
     begin(op, &mut code)?;
-    emit(alloc, e, slots, &mut code)?;
+    emit(alloc, e, places, &mut code)?;
     end(op, 1, &mut code)?;
+    code.shrink_to_fit();
     Ok(Postfix {
         instrs: Items::of(code),
         is_low: is_low(e, 7),
@@ -247,41 +242,102 @@ fn change(
 }
 
 /// The code of a statement.
-fn statement(alloc: Global, stmt: &Stmt, slots: &[(Name, u32)]) -> Result<StmtCode, NoMemory>
-    requires { IsCompilable slots.now stmt.now }
-    ensures { IfOk result (λ s. stmt_program s ≡ statement_of (slot_of slots.now) stmt.now) }
+fn statement<P: Places>(alloc: Global, stmt: &Stmt, places: &P) -> Result<StmtCode, NoMemory>
+    requires { IsCompilable stmt.now }
+    ensures meaning { (slots : ℕ → ℕ) →
+        IfOk result (λ s. stmt_program slots s ≡ statement_of (λ name. slots (P.place places.now name)) stmt.now) }
+    ensures reach { (n : ℕ) → All (λ name. P.place places.now name < n) (stmt_names stmt.now) →
+        IfOk result (λ s. stmt_code_reach s ≤ n) }
 {
     match stmt {
         Stmt::Create(name, e) => {
-            let code = postfix(alloc, e, slots)?;
-            Ok(StmtCode::Create(slot_at(slots, name), code))
+            let code = postfix(alloc, e, places)?;
+            Ok(StmtCode::Create(places.place_of(name), code))
         }
         Stmt::Assign(name, e) => {
-            let code = postfix(alloc, e, slots)?;
-            Ok(StmtCode::Assign(slot_at(slots, name), code))
+            let code = postfix(alloc, e, places)?;
+            Ok(StmtCode::Assign(places.place_of(name), code))
         }
         Stmt::Change(op, name, e) => {
-            let slot = slot_at(slots, name);
-            let code = change(alloc, *op, slot, e, slots)?;
-            Ok(StmtCode::Assign(slot, code))
+            let place = places.place_of(name);
+            let code = change(alloc, *op, place, e, places)?;
+            Ok(StmtCode::Assign(place, code))
         }
-        Stmt::Plain(e) => Ok(StmtCode::Plain(postfix(alloc, e, slots)?)),
+        Stmt::Plain(e) => Ok(StmtCode::Plain(postfix(alloc, e, places)?)),
     }
 }
 
-/// The code of a script, with each name replaced by its slot. The first pair of a name counts.
-pub fn compile(alloc: Global, script: &Script, slots: &[(Name, u32)]) -> Result<Code, NoMemory>
-    requires some { 0 < length script.now.stmts }
-    requires compilable { All (IsCompilable slots.now) script.now.stmts }
-    ensures meaning { IfOk result (λ code. program code ≡ program_of (slot_of slots.now) script.now.stmts) }
-    ensures reach { (n : ℕ) → All (λ pair. pair.1 < n) slots.now → IfOk result (λ code. (program code).reach ≤ n) }
+/// Adds the names of an expression. The error is want of memory.
+fn add_expr(alloc: Global, e: &Expr, names: &mut Numbering) -> Result<(), NoMemory>
+    ensures { OnOk result (names.new ≡ insert_all bytes_eq names.old (names_of e.now)) }
 {
-    let mut stmts = Vec::new(alloc);
-    for stmt in script.stmts.list() {
-        stmts.push(statement(alloc, stmt, slots)?)?;
+    match e {
+        Expr::Num(_) | Expr::Lit(_) => Ok(()),
+        Expr::Look(name) => names.add(alloc, name),
+        Expr::Group(a) | Expr::Unary(_, a) => add_expr(alloc, a.get(), names),
+        Expr::Binary(_, a, b) => {
+            add_expr(alloc, a.get(), names)?;
+            add_expr(alloc, b.get(), names)
+        }
+        Expr::Choose(a, b, c) => {
+            add_expr(alloc, a.get(), names)?;
+            add_expr(alloc, b.get(), names)?;
+            add_expr(alloc, c.get(), names)
+        }
     }
-    Ok(Code {
-        stmts: Items::of(stmts),
+}
+
+/// Adds the names of a statement. The error is want of memory.
+fn add_stmt(alloc: Global, stmt: &Stmt, names: &mut Numbering) -> Result<(), NoMemory>
+    ensures { OnOk result (names.new ≡ insert_all bytes_eq names.old (stmt_names stmt.now)) }
+{
+    match stmt {
+        Stmt::Create(name, e) | Stmt::Assign(name, e) | Stmt::Change(_, name, e) => {
+            names.add(alloc, name)?;
+            add_expr(alloc, e, names)
+        }
+        Stmt::Plain(e) => add_expr(alloc, e, names),
+    }
+}
+
+/// The names of statements, each with its number, or want of memory.
+fn numbering_of(alloc: Global, stmts: &[Stmt]) -> Result<Numbering, NoMemory>
+    ensures { IfOk result (λ names. names ≡ insert_all bytes_eq [] (flat_map stmt_names stmts.now)) }
+{
+    let mut names = Numbering::none(alloc);
+    for stmt in stmts {
+        add_stmt(alloc, stmt, &mut names)?;
+    }
+    Ok(names)
+}
+
+/// The code of statements, one after the other.
+fn statements(alloc: Global, stmts: &[Stmt], names: &Numbering) -> Result<Vec<StmtCode>, NoMemory>
+    requires compilable { All IsCompilable stmts.now }
+    requires named { All (λ name. place_in names.now name < length names.now) (flat_map stmt_names stmts.now) }
+    ensures meaning { (slots : ℕ → ℕ) → IfOk result (λ codes.
+        map (stmt_program slots) codes.items ≡ map (statement_of (λ name. slots (place_in names.now name))) stmts.now) }
+    ensures reach { IfOk result (λ codes. All (λ s. stmt_code_reach s ≤ length names.now) codes.items) }
+{
+    let mut codes = Vec::new(alloc);
+    for stmt in stmts {
+        codes.push(statement(alloc, stmt, names)?)?;
+    }
+    Ok(codes)
+}
+
+/// The code of a script, over the numbers of its names.
+#[tactic(auto, unfolding(crate::specs::Codes::program_over))]
+pub fn compile(alloc: Global, script: &Script) -> Result<ScriptCode, NoMemory>
+    requires { All IsCompilable script.now.stmts }
+    ensures { IfOk result (IsCodeFor script.now) }
+{
+    let stmts = script.stmts.list();
+    let names = numbering_of(alloc, stmts)?;
+    let codes = statements(alloc, stmts, &names)?;
+    Ok(ScriptCode {
+        stmts: Shared::of(alloc, Items::of(codes))?,
+        names: Shared::of(alloc, names.names(alloc)?)?,
     })
 }
 
@@ -292,6 +348,6 @@ pub fn compile_expr(alloc: Global, e: &Expr, slots: &[(Name, u32)]) -> Result<Ex
     ensures meaning { IfOk result (λ code. formula code ≡ formula_of (slot_of slots.now) e.now) }
     ensures reach { (n : ℕ) → All (λ pair. pair.1 < n) slots.now → IfOk result (λ code. (formula code).reach ≤ n) }
 {
-    let postfix = postfix(alloc, e, slots)?;
+    let postfix = postfix(alloc, e, &Pairs { slots })?;
     Ok(ExprCode { postfix })
 }

@@ -1,45 +1,22 @@
 ghost use Rattle.std.specs.Prelude.{◌≡◌, true, false, ◌≢◌, ◌+◌, ◌<◌, ◌≤◌, None, IfNone, IfSome, IsErr, OnErr, Ok, length};
 ghost use Rattle.spec_script.specs.declared.value.Value.TheVariants.{Int};
-ghost use Rattle.spec_script.specs.Entries.{entry_of};
+ghost use Rattle.std.specs.List.{All};
 ghost use Rattle.script_code.specs.IntEntries.{IsAnswered};
 ghost use Rattle.spec_script.specs.Evaluation.{Run, written, if_there};
 ghost use Rattle.base_texts.specs.Stops.{UnlessMemory};
-ghost use Rattle.script_code.specs.Codes.{program};
+ghost use Rattle.script_code.specs.Codes.{needed, program};
 ghost use Rattle.script_code.specs.Rooms.{fits};
 ghost use Rattle.script_code.specs.Running.{code_meets, code_reach, code_value};
 ghost use Rattle.script_code.specs.Stacks.{Leaves};
-ghost use Rattle.script_code.specs.Statements.{stmt_code_meets, stmt_code_reach, stmt_run};
+ghost use Rattle.script_code.specs.Statements.{entry_at, slot_in, stmt_code_meets, stmt_code_reach, stmt_run};
 
 use crate::codes::{Code, StmtCode};
 use crate::machine::run;
-use crate::number_stack::{NumberStack, Numbers};
+use crate::named::{NamedEntries, slot_at};
+use crate::number_stack::NumberStack;
 use crate::postfix::Postfix;
 use base_texts::Stop;
 use spec_script::{Cells, ExecFault, Value};
-
-/// Entries, for a stack of numbers.
-#[derive(Drop)]
-struct EntryNumbers<'a, B: Cells> {
-    cells: &'a B,
-}
-
-impl<B: Cells> Numbers for EntryNumbers<'_, B> {
-    ghost use Rattle.std.specs.Prelude.{length};
-    ghost use Rattle.spec_script.specs.Entries.{entry_of as found};
-
-    ghost reach = { λ s. length (B.entries s.cells.now) };
-
-    ghost gives = { λ s. found (B.entries s.cells.now) };
-
-    #[inline(always)]
-    fn number(&self, slot: u32) -> Result<i64, Stop<ExecFault>> {
-        match self.cells.get(slot) {
-            Some(Value::Int(n)) => Ok(*n),
-            Some(Value::Text(_)) => Err(Stop::NoMemory),
-            None => Err(Stop::Fault(ExecFault::NoEntry { slot })),
-        }
-    }
-}
 
 /// The number that a code gives over entries, or its first fault, on a stack over these places. It
 /// gives up where a text is met.
@@ -47,41 +24,45 @@ impl<B: Cells> Numbers for EntryNumbers<'_, B> {
 #[inline(always)]
 fn int_on<B: Cells, const N: usize>(
     code: &Postfix,
+    slots: &[u32],
     cells: &B,
     places: &mut [i64; N],
 ) -> Result<i64, Stop<ExecFault>>
     requires most { N ≤ 65 }
     requires fits { fits N code.now.instrs ≡ true }
-    requires reach { code_reach code.now.instrs ≤ length (B.entries cells.now) }
-    ensures leaves { Leaves result (code_value (entry_of (B.entries cells.now)) code.now.instrs) Int }
-    ensures answered { code_meets (entry_of (B.entries cells.now)) code.now.instrs ≡ false → IsAnswered result }
+    requires named { code_reach code.now.instrs ≤ length slots.now }
+    requires below { All (λ slot. slot < length (B.entries cells.now)) slots.now }
+    ensures leaves { Leaves result (code_value (entry_at (slot_in slots.now) (B.entries cells.now)) code.now.instrs) Int }
+    ensures answered { code_meets (entry_at (slot_in slots.now) (B.entries cells.now)) code.now.instrs ≡ false → IsAnswered result }
 {
     let mut stack = NumberStack::empty(places);
-    run(code, &EntryNumbers { cells }, &mut stack)?;
+    run(code, &NamedEntries { cells, slots }, &mut stack)?;
     Ok(stack.take())
 }
 
 /// `int_of` where 65 places may be wanted, which is seldom.
 #[inline(never)]
-fn high_int_of<B: Cells>(code: &Postfix, cells: &B) -> Result<i64, Stop<ExecFault>>
-    requires { code_reach code.now.instrs ≤ length (B.entries cells.now) }
-    ensures leaves { Leaves result (code_value (entry_of (B.entries cells.now)) code.now.instrs) Int }
-    ensures answered { code_meets (entry_of (B.entries cells.now)) code.now.instrs ≡ false → IsAnswered result }
+fn high_int_of<B: Cells>(code: &Postfix, slots: &[u32], cells: &B) -> Result<i64, Stop<ExecFault>>
+    requires named { code_reach code.now.instrs ≤ length slots.now }
+    requires below { All (λ slot. slot < length (B.entries cells.now)) slots.now }
+    ensures leaves { Leaves result (code_value (entry_at (slot_in slots.now) (B.entries cells.now)) code.now.instrs) Int }
+    ensures answered { code_meets (entry_at (slot_in slots.now) (B.entries cells.now)) code.now.instrs ≡ false → IsAnswered result }
 {
-    int_on(code, cells, &mut [0; 65])
+    int_on(code, slots, cells, &mut [0; 65])
 }
 
 /// The number that a code gives over entries, or its first fault. It gives up where a text is met.
 #[inline(always)]
-fn int_of<B: Cells>(code: &Postfix, cells: &B) -> Result<i64, Stop<ExecFault>>
-    requires { code_reach code.now.instrs ≤ length (B.entries cells.now) }
-    ensures leaves { Leaves result (code_value (entry_of (B.entries cells.now)) code.now.instrs) Int }
-    ensures answered { code_meets (entry_of (B.entries cells.now)) code.now.instrs ≡ false → IsAnswered result }
+fn int_of<B: Cells>(code: &Postfix, slots: &[u32], cells: &B) -> Result<i64, Stop<ExecFault>>
+    requires named { code_reach code.now.instrs ≤ length slots.now }
+    requires below { All (λ slot. slot < length (B.entries cells.now)) slots.now }
+    ensures leaves { Leaves result (code_value (entry_at (slot_in slots.now) (B.entries cells.now)) code.now.instrs) Int }
+    ensures answered { code_meets (entry_at (slot_in slots.now) (B.entries cells.now)) code.now.instrs ≡ false → IsAnswered result }
 {
     if !code.is_low {
-        return high_int_of(code, cells);
+        return high_int_of(code, slots, cells);
     }
-    int_on(code, cells, &mut [0; 8])
+    int_on(code, slots, cells, &mut [0; 8])
 }
 
 /// Writes the number to a slot that has an entry, and gives it.
@@ -108,21 +89,26 @@ fn assign_int<B: Cells>(slot: u32, n: i64, cells: &mut B) -> Result<i64, Stop<Ex
 /// Runs a statement, and gives its number or its fault. It gives up where a text is met, and then
 /// nothing is written.
 #[inline(always)]
-pub fn step_int<B: Cells>(stmt: &StmtCode, cells: &mut B) -> Result<i64, Stop<ExecFault>>
-    requires { stmt_code_reach stmt.now ≤ length (B.entries cells.old) }
-    ensures answer { Leaves result (stmt_run stmt.now (B.entries cells.old)).answer Int }
-    ensures entries { UnlessMemory result (B.entries cells.new ≡ (stmt_run stmt.now (B.entries cells.old)).entries) }
+pub fn step_int<B: Cells>(
+    stmt: &StmtCode,
+    slots: &[u32],
+    cells: &mut B,
+) -> Result<i64, Stop<ExecFault>>
+    requires named { stmt_code_reach stmt.now ≤ length slots.now }
+    requires below { All (λ slot. slot < length (B.entries cells.old)) slots.now }
+    ensures answer { Leaves result (stmt_run (slot_in slots.now) stmt.now (B.entries cells.old)).answer Int }
+    ensures entries { UnlessMemory result (B.entries cells.new ≡ (stmt_run (slot_in slots.now) stmt.now (B.entries cells.old)).entries) }
     ensures nothing { OnErr result (B.entries cells.new ≡ B.entries cells.old) }
-    ensures answered { stmt_code_meets stmt.now (B.entries cells.old) ≡ false → IsAnswered result }
+    ensures answered { stmt_code_meets (slot_in slots.now) stmt.now (B.entries cells.old) ≡ false → IsAnswered result }
     ensures slots { length (B.entries cells.new) ≡ length (B.entries cells.old) }
 {
-    let n = int_of(stmt.postfix(), cells)?;
+    let n = int_of(stmt.postfix(), slots, cells)?;
     match stmt {
-        StmtCode::Create(slot, _) => {
-            cells.put_int(*slot, n);
+        StmtCode::Create(number, _) => {
+            cells.put_int(slot_at(slots, *number), n);
             Ok(n)
         }
-        StmtCode::Assign(slot, _) => assign_int(*slot, n, cells),
+        StmtCode::Assign(number, _) => assign_int(slot_at(slots, *number), n, cells),
         StmtCode::Plain(_) => Ok(n),
     }
 }
@@ -130,10 +116,10 @@ pub fn step_int<B: Cells>(stmt: &StmtCode, cells: &mut B) -> Result<i64, Stop<Ex
 /// Runs a script of one statement, and gives its number. None where there are more, and where the
 /// statement gives no number or a text is met, and then nothing is written. It is not inlined, as it
 /// wants more registers than a caller has to spare.
-#[tactic(auto, unfolding(crate::specs::Codes::program))]
+#[tactic(auto, unfolding(crate::specs::Codes::program, crate::specs::Codes::needed))]
 #[inline(never)]
 pub fn exec_int<B: Cells>(code: &Code, cells: &mut B) -> Option<i64>
-    requires { (program code.now).reach ≤ length (B.entries cells.old) }
+    requires { needed code.now ≤ length (B.entries cells.old) }
     ensures gives { IfSome result (λ n. (program code.now).run (B.entries cells.old) ≡
         record { answer = Ok (Int n); entries = B.entries cells.new }) }
     ensures nothing { IfNone result (B.entries cells.new ≡ B.entries cells.old) }
@@ -142,8 +128,8 @@ pub fn exec_int<B: Cells>(code: &Code, cells: &mut B) -> Option<i64>
     ensures several { length code.now.stmts ≢ 1 → result ≡ None }
     ensures slots { length (B.entries cells.new) ≡ length (B.entries cells.old) }
 {
-    match code.stmts.list() {
-        [only] => step_int(only, cells).ok(),
+    match code.stmts.get().list() {
+        [only] => step_int(only, code.slots.get().list(), cells).ok(),
         _ => None,
     }
 }

@@ -1,15 +1,16 @@
 ghost use Rattle.std.specs.Prelude.{◌≡◌, false, ◌+◌, ◌<◌, ◌≤◌, length, Ok};
 ghost use Rattle.base_texts.specs.Stops.{Gives, UnlessMemory};
-ghost use Rattle.script_code.specs.Codes.{program};
-ghost use Rattle.spec_script.specs.Entries.{entry_of};
+ghost use Rattle.std.specs.List.{All};
+ghost use Rattle.script_code.specs.Codes.{needed, program};
 ghost use Rattle.script_code.specs.IntEntries.{IsAnswered};
 ghost use Rattle.spec_script.specs.Evaluation.{written, if_there};
 ghost use Rattle.script_code.specs.Running.{code_reach, code_value};
-ghost use Rattle.script_code.specs.Statements.{stmt_code_meets, stmt_code_reach, stmt_run};
+ghost use Rattle.script_code.specs.Statements.{entry_at, slot_in, stmt_code_meets, stmt_code_reach, stmt_run};
 
 use crate::codes::{Code, StmtCode};
 use crate::ints::step_int;
 use crate::machine::run;
+use crate::named::{NamedEntries, slot_at};
 use crate::operators::{as_int, binary_values, unary_value};
 use crate::postfix::Postfix;
 use crate::stack::Stack;
@@ -24,9 +25,9 @@ struct EntryValues {
     values: ValueStack,
 }
 
-impl<B: Cells> Stack<B> for EntryValues {
+impl<B: Cells> Stack<NamedEntries<'_, B>> for EntryValues {
     ghost use Rattle.std.specs.Prelude.{false, length};
-    ghost use Rattle.spec_script.specs.Entries.{entry_of as found};
+    ghost use Rattle.script_code.specs.Statements.{entry_at as found, slot_in as slot_of};
 
     ghost values = { λ s. s.values };
 
@@ -34,9 +35,9 @@ impl<B: Cells> Stack<B> for EntryValues {
 
     ghost room = { 65 };
 
-    ghost reach = { λ cells. length (B.entries cells) };
+    ghost reach = { λ s. length s.slots.now };
 
-    ghost gives = { λ cells. found (B.entries cells) };
+    ghost gives = { λ s. found (slot_of s.slots.now) (B.entries s.cells.now) };
 
     fn put_number(&mut self, n: i64) {
         self.values.put(Value::Int(n));
@@ -48,8 +49,13 @@ impl<B: Cells> Stack<B> for EntryValues {
         Ok(())
     }
 
-    fn put_slot(&mut self, slot: u32, slots: &B) -> Result<(), Stop<ExecFault>> {
-        match slots.get(slot) {
+    fn put_slot(
+        &mut self,
+        number: u32,
+        named: &NamedEntries<'_, B>,
+    ) -> Result<(), Stop<ExecFault>> {
+        let slot = slot_at(named.slots, number);
+        match named.cells.get(slot) {
             None => Err(Stop::Fault(ExecFault::NoEntry { slot })),
             Some(value) => {
                 let value = value.copy(self.values.allocator())?;
@@ -89,14 +95,20 @@ impl<B: Cells> Stack<B> for EntryValues {
 
 /// The value of a code, or its first fault.
 #[tactic(auto, using(crate::proofs::Given::value_there, crate::proofs::Given::value_given))]
-fn eval<B: Cells>(alloc: Global, code: &Postfix, cells: &B) -> Result<Value, Stop<ExecFault>>
-    requires { code_reach code.now.instrs ≤ length (B.entries cells.now) }
-    ensures { Gives result (code_value (entry_of (B.entries cells.now)) code.now.instrs) }
+fn eval<B: Cells>(
+    alloc: Global,
+    code: &Postfix,
+    slots: &[u32],
+    cells: &B,
+) -> Result<Value, Stop<ExecFault>>
+    requires named { code_reach code.now.instrs ≤ length slots.now }
+    requires below { All (λ slot. slot < length (B.entries cells.now)) slots.now }
+    ensures { Gives result (code_value (entry_at (slot_in slots.now) (B.entries cells.now)) code.now.instrs) }
 {
     let mut stack = EntryValues {
         values: ValueStack::empty(alloc),
     };
-    run(code, cells, &mut stack)?;
+    run(code, &NamedEntries { cells, slots }, &mut stack)?;
     Ok(stack.values.take())
 }
 
@@ -144,55 +156,64 @@ fn assign<B: Cells>(
 fn step_value<B: Cells>(
     alloc: Global,
     stmt: &StmtCode,
+    slots: &[u32],
     cells: &mut B,
 ) -> Result<Value, Stop<ExecFault>>
-    requires { stmt_code_reach stmt.now ≤ length (B.entries cells.old) }
-    ensures answer { Gives result (stmt_run stmt.now (B.entries cells.old)).answer }
-    ensures entries { UnlessMemory result (B.entries cells.new ≡ (stmt_run stmt.now (B.entries cells.old)).entries) }
+    requires named { stmt_code_reach stmt.now ≤ length slots.now }
+    requires below { All (λ slot. slot < length (B.entries cells.old)) slots.now }
+    ensures answer { Gives result (stmt_run (slot_in slots.now) stmt.now (B.entries cells.old)).answer }
+    ensures entries { UnlessMemory result (B.entries cells.new ≡ (stmt_run (slot_in slots.now) stmt.now (B.entries cells.old)).entries) }
     ensures slots { length (B.entries cells.new) ≡ length (B.entries cells.old) }
 {
     match stmt {
-        StmtCode::Create(slot, code) => {
-            let value = eval(alloc, code, cells)?;
-            store(alloc, *slot, value, cells)
+        StmtCode::Create(number, code) => {
+            let value = eval(alloc, code, slots, cells)?;
+            store(alloc, slot_at(slots, *number), value, cells)
         }
-        StmtCode::Assign(slot, code) => {
-            let value = eval(alloc, code, cells)?;
-            assign(alloc, *slot, value, cells)
+        StmtCode::Assign(number, code) => {
+            let value = eval(alloc, code, slots, cells)?;
+            assign(alloc, slot_at(slots, *number), value, cells)
         }
-        StmtCode::Plain(code) => eval(alloc, code, cells),
+        StmtCode::Plain(code) => eval(alloc, code, slots, cells),
     }
 }
 
 /// Runs a statement.
 #[inline(always)]
-fn step<B: Cells>(alloc: Global, stmt: &StmtCode, cells: &mut B) -> Result<Value, Stop<ExecFault>>
-    requires { stmt_code_reach stmt.now ≤ length (B.entries cells.old) }
-    ensures answer { Gives result (stmt_run stmt.now (B.entries cells.old)).answer }
-    ensures entries { UnlessMemory result (B.entries cells.new ≡ (stmt_run stmt.now (B.entries cells.old)).entries) }
+fn step<B: Cells>(
+    alloc: Global,
+    stmt: &StmtCode,
+    slots: &[u32],
+    cells: &mut B,
+) -> Result<Value, Stop<ExecFault>>
+    requires named { stmt_code_reach stmt.now ≤ length slots.now }
+    requires below { All (λ slot. slot < length (B.entries cells.old)) slots.now }
+    ensures answer { Gives result (stmt_run (slot_in slots.now) stmt.now (B.entries cells.old)).answer }
+    ensures entries { UnlessMemory result (B.entries cells.new ≡ (stmt_run (slot_in slots.now) stmt.now (B.entries cells.old)).entries) }
     ensures slots { length (B.entries cells.new) ≡ length (B.entries cells.old) }
-    ensures answered { stmt_code_meets stmt.now (B.entries cells.old) ≡ false → IsAnswered result }
+    ensures answered { stmt_code_meets (slot_in slots.now) stmt.now (B.entries cells.old) ≡ false → IsAnswered result }
 {
-    match step_int(stmt, cells) {
+    match step_int(stmt, slots, cells) {
         Ok(n) => Ok(Value::Int(n)),
         Err(Stop::Fault(fault)) => Err(Stop::Fault(fault)),
-        Err(Stop::NoMemory) => step_value(alloc, stmt, cells),
+        Err(Stop::NoMemory) => step_value(alloc, stmt, slots, cells),
     }
 }
 
 /// Runs a script over the cells and gives the value of its last statement, or the first fault. The
 /// writes before a fault stand. Want of memory comes only where the run meets a text.
-#[tactic(auto, unfolding(crate::specs::Codes::program))]
+#[tactic(auto, unfolding(crate::specs::Codes::program, crate::specs::Codes::needed))]
 pub fn exec<B: Cells>(alloc: Global, code: &Code, cells: &mut B) -> Result<Value, Stop<ExecFault>>
-    requires { (program code.now).reach ≤ length (B.entries cells.old) }
+    requires { needed code.now ≤ length (B.entries cells.old) }
     ensures answer { Gives result ((program code.now).run (B.entries cells.old)).answer }
     ensures entries { UnlessMemory result (B.entries cells.new ≡ ((program code.now).run (B.entries cells.old)).entries) }
     ensures slots { length (B.entries cells.new) ≡ length (B.entries cells.old) }
     ensures memory { (program code.now).meets (B.entries cells.old) ≡ false → IsAnswered result }
 {
+    let slots = code.slots.get().list();
     let mut last = Value::Int(0);
-    for stmt in code.stmts.list() {
-        last = step(alloc, stmt, cells)?;
+    for stmt in code.stmts.get().list() {
+        last = step(alloc, stmt, slots, cells)?;
     }
     Ok(last)
 }

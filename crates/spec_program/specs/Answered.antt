@@ -4,7 +4,7 @@ use Rattle.spec_program.specs.declared.exit.Exit.{Exit}
 use Rattle.spec_program.specs.declared.file.File.{File}
 use Rattle.spec_program.specs.Files.{Contents, Named}
 use Rattle.spec_program.specs.Jobs.{FilesBegin, FilesGive, files_of}
-use Rattle.spec_program.specs.Output.{AreUncalled, Begun, Output}
+use Rattle.spec_program.specs.Output.{AreUncalled}
 use Rattle.spec_program.specs.Gives.{Beginning, Giving}
 use Rattle.spec_program.specs.Refused.{too_long, unread, words_refused}
 use Rattle.spec_program.specs.Words.{Command}

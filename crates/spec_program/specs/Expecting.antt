@@ -19,7 +19,6 @@ use Rattle.spec_program.specs.declared.exit.Exit.{Exit}
 use Rattle.spec_program.specs.declared.exit.Exit.TheVariants as exit
 use Rattle.spec_program.specs.declared.file.File.TheVariants as file
 use Rattle.spec_program.specs.declared.tree_fault.TreeFault.{TreeFault}
-use Rattle.spec_program.specs.Files.{Contents}
 use Rattle.spec_program.specs.Gives.{Giving, OrTooLong}
 use Rattle.spec_program.specs.Output.{Ending, Never, OfRun, Output}
 use Rattle.spec_program.specs.Refused.{expect_refused, join_refused, too_long, tree_refused, world_refused}

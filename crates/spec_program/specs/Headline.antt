@@ -1,16 +1,18 @@
 -- What `bt` says of its answer.
-use Rattle.std.specs.Prelude.{ℕ, ◌≡◌, List, ◌++◌, map, Option, Some, None, Ok}
+use Rattle.std.specs.Prelude.{ℕ, ◌≡◌, ◌≤◌, List, ◌++◌, length, map, Option, Some, None, Ok}
 use Rattle.std.specs.List.{concat}
 use Rattle.spec_world_file.specs.GroundFile.{Grounded, reads_ground}
 use Rattle.spec_tree.specs.declared.term.Tree.{Tree}
 use Rattle.spec_world.specs.declared.world.World.{World}
+use Rattle.spec_tree.specs.Limits.{most_file_bytes}
 use Rattle.spec_tree.specs.PrintedTree.{tree_lines}
+use Rattle.spec_run.specs.Joins.{lack_of}
 use Rattle.spec_world_file.specs.WorldFile.{ReadsWorld}
 use Rattle.spec_program.specs.TreeFiles.{TreeReads}
 use Rattle.spec_plan.specs.declared.ending.End.TheVariants.{Reached}
 use Rattle.spec_plan.specs.declared.ending.Step.{Step}
 use Rattle.spec_plan.specs.PlanLines.{end_line, step_line}
-use Rattle.spec_plan.specs.Modelled.{ReachedAt}
+use Rattle.spec_plan.specs.Modelled.{ReachedAt, modelled, ticks}
 use Rattle.spec_output.specs.NoNames.{no_names}
 use Rattle.spec_program.specs.Answers.{IfTold, IsWhole, Side, no_moments}
 use Rattle.spec_program.specs.Answered.{ToldIfNamed}
@@ -37,9 +39,18 @@ IsScriptOf file world = ReadsWorld file (Ok world)
 abbrev pub IsGroundOf : List ℕ → World → Type 0
 IsGroundOf file world = (g : Grounded) × (reads_ground file ≡ Ok g) × ReadsWorld g.text (Ok world)
 
--- The goals of the world that this file describes are reached by a tree. What was written are some steps, the tick that
--- reaches them and the tree; the bytes of the tree read as the tree; and in its own run, ticked once each period, every goal
--- is true after this tick, and not all are true after any earlier one.
+-- the file that a plan is: some steps, the tick that reaches the goals, and the tree
+abbrev pub plan_file : List Step → Tree → ℕ → List ℕ
+plan_file steps tree tick = concat (map step_line steps) ++ (end_line no_names (Reached tree tick) ++ concat (tree_lines tree))
+
+-- the world, where its script is the first ticks of a modelled run
+abbrev pub ticking : World → ℕ → ℕ → World
+ticking world period n = record (modelled world) { events = ticks period n }
+
+-- The goals of the world that this file describes are reached by a tree. What was written is a tree file that is not too
+-- long: some steps, the tick that reaches the goals, and the tree. As it stands it reads as the tree, which joins the world
+-- with the drivers that were there, where the script of the world is a tick each period. And in the tree's own run, ticked so,
+-- every goal is true after this tick, and not all are true after any earlier one.
 pub record PlanReaches (holds : Option (List ℕ → List ℕ)) (named : List ℕ) (Describes : List ℕ → World → Type 0) (period : ℕ) (old new : Side) : Type 0 where
   pub file : List ℕ
   pub told : ToldIfNamed holds (Some named) (λ bytes. file ≡ bytes)
@@ -48,9 +59,10 @@ pub record PlanReaches (holds : Option (List ℕ → List ℕ)) (named : List �
   pub steps : List Step
   pub tree : Tree
   pub tick : ℕ
-  pub printed : Appended old.written new.written
-      (concat (map step_line steps) ++ (end_line no_names (Reached tree tick) ++ concat (tree_lines tree)))
-  pub reads_back : TreeReads None (concat (tree_lines tree)) (Ok tree)
+  pub printed : Appended old.written new.written (plan_file steps tree tick)
+  pub short : length (plan_file steps tree tick) ≤ most_file_bytes
+  pub reads_back : TreeReads None (plan_file steps tree tick) (Ok tree)
+  pub joins : (n : ℕ) → lack_of tree (ticking world period n) old.drivers ≡ None
   pub reached : ReachedAt tree world period tick
 
 -- where the command is a plan, its goals are reached

@@ -1,5 +1,5 @@
 -- What is printed of a tree, and of a ground file.
-use Rattle.std.specs.Prelude.{ℕ, ◌-◌, List, [], ◌∷◌, ◌++◌, codes, decimal, length, map, slice_index_or, None, Result, Ok, Err}
+use Rattle.std.specs.Prelude.{ℕ, ◌-◌, List, [], ◌∷◌, ◌++◌, codes, decimal, length, map, slice_index_or, Result, Ok, Err}
 use Rattle.std.specs.List.{concat, flat_map}
 use Rattle.spec_dead.specs.Dead.{dead_nodes}
 use Rattle.spec_program.specs.declared.exit.Exit.TheVariants as exit

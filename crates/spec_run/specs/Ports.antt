@@ -21,7 +21,7 @@ use Rattle.spec_tree.specs.declared.term.PortValue.TheVariants.{Lit, Key}
 use Rattle.spec_tree.specs.Boards.{port_of}
 use Rattle.spec_tree.specs.BuiltIns.{fits, rate_of}
 use Rattle.spec_run.specs.Done.{State}
-use Rattle.spec_run.specs.Rules.Decorators.{mark_of}
+use Rattle.spec_run.specs.Rules.OneVisit.{mark_of}
 use Rattle.spec_run.specs.Rules.RoundRobins.{rotation_at, rotation_of}
 use Rattle.spec_run.specs.Rules.Sequences.{index_of}
 use Rattle.spec_run.specs.Sites.{Site, slot_at}

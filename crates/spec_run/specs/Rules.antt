@@ -1,7 +1,7 @@
 pub mod Answers
 pub mod Choices
-pub mod Decorators
 pub mod Kinds
+pub mod OneVisit
 pub mod Parallels
 pub mod Pipelines
 pub mod Rates

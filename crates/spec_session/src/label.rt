@@ -1,5 +1,5 @@
-use base_texts::{Items, Name};
-use spec_tree::{Kind, Port};
+use base_texts::Name;
+use spec_tree::{Kind, Ports};
 
 /// What is told of a node, which no event changes.
 #[derive(Debug, Drop)]
@@ -12,5 +12,5 @@ pub struct Label {
     pub path: Name,
     /// The number of the scope in which it stands: the uid of the SubTree node round it, or 0.
     pub scope: u32,
-    pub ports: Items<Port>,
+    pub ports: Ports,
 }

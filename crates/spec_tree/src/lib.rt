@@ -3,8 +3,10 @@
 
 mod built_ins;
 mod cell;
+mod ports;
 mod term;
 
 pub use built_ins::{Class, Range};
 pub use cell::{Cell, Naming};
+pub use ports::Ports;
 pub use term::{Guards, Kind, Port, PortValue, Term, Tree};

@@ -1,3 +1,4 @@
+use crate::ports::Ports;
 use base_texts::{Items, Name, Shared};
 use spec_script::{Script, Value};
 
@@ -69,7 +70,7 @@ pub struct Term {
     pub kind: Kind,
     pub id: Name,
     pub name: Name,
-    pub ports: Items<Port>,
+    pub ports: Ports,
     pub code: Option<Shared<Script>>,
     pub guards: Guards,
     pub autoremap: bool,

@@ -1,17 +1,16 @@
 //! Whole plan runs over the worlds of scripts: the steps, the end, and the tree where the goals are
 //! reached.
 
-ghost use Rattle.std.specs.Prelude.{◌≢◌, [], IsTrue};
+ghost use Rattle.std.specs.Prelude.{◌≢◌, [], IsTrue, map};
 ghost use Rattle.spec_world.specs.Worlds.{IsValidWorld};
 ghost use Rattle.plan_search.specs.Served.{AreServed};
 ghost use Rattle.plan_search.specs.Reached.{AreInRange};
 
 use base_outside::SureSink;
 use base_texts::{Name, NoMemory};
-use plan_search::plan;
-use run_driver::{Driver, Drivers, kind_of};
+use cli_program::plan_over;
+use run_driver::{Driver, find_kind, hold_nothing, kind_of};
 use run_leaves::{Conditions, Gate, Replay, Timed};
-use run_loop::Roster;
 use spec_plan::{End, Limits, PlanEnd, Step};
 use spec_tree::Tree;
 use spec_world::World;
@@ -113,11 +112,11 @@ fn told_of(alloc: Global, planned: &PlanEnd) -> Result<String, NoMemory> {
 }
 
 /// Whether each row has a driver of its kind.
-fn all_served<D: Drivers>(world: &World, drivers: &D) -> bool
-    ensures { IsTrue result → AreServed world.now (D.states drivers.now) }
+fn all_served(world: &World, roster: &[Box<dyn Driver>]) -> bool
+    ensures { IsTrue result → AreServed world.now (map (λ b. state b) roster.now) }
 {
     for row in world.rows.list() {
-        if drivers.place_of(kind_of(row)).is_none() {
+        if find_kind(roster, kind_of(row)).is_none() {
             return false;
         }
     }
@@ -125,32 +124,31 @@ fn all_served<D: Drivers>(world: &World, drivers: &D) -> bool
 }
 
 /// What is told of the plan for a world that has a goal, over drivers that serve it.
-fn told_for<D: Drivers>(
+fn told_for(
     rt: &impl Abort,
     alloc: Global,
     world: &World,
     limits: &Limits,
-    drivers: &mut D,
+    roster: &mut Vec<Box<dyn Driver>>,
 ) -> Result<String, NoMemory>
     requires valid { IsValidWorld world.now }
     requires goal { world.now.goals ≢ [] }
     requires limits { AreInRange limits.now }
 {
-    assert!(rt; drivers.holds_nothing());
-    assert!(rt; all_served(world, drivers));
-    let planned = plan(alloc, world, limits, drivers)?;
-    assert!(rt; drivers.holds_nothing());
+    assert!(rt; hold_nothing(roster));
+    assert!(rt; all_served(world, roster));
+    let planned = plan_over(alloc, world, limits, roster)?;
+    assert!(rt; hold_nothing(roster));
     told_of(alloc, &planned)
 }
 
 /// What is told of the plan of a row, over the drivers of the modelled world.
 fn told(rt: &impl Abort, alloc: Global, row: &Row) -> Result<String, NoMemory> {
-    let mut drivers: Vec<Box<dyn Driver>> = Vec::new(alloc);
-    drivers.push(Box::new(alloc, Conditions::new(alloc))?)?;
-    drivers.push(Box::new(alloc, Timed::new(alloc))?)?;
-    drivers.push(Box::new(alloc, Replay::new(alloc))?)?;
-    drivers.push(Box::new(alloc, Gate::new(alloc))?)?;
-    let mut roster = Roster { drivers };
+    let mut roster: Vec<Box<dyn Driver>> = Vec::new(alloc);
+    roster.push(Box::new(alloc, Conditions::new(alloc))?)?;
+    roster.push(Box::new(alloc, Timed::new(alloc))?)?;
+    roster.push(Box::new(alloc, Replay::new(alloc))?)?;
+    roster.push(Box::new(alloc, Gate::new(alloc))?)?;
     let limits = &row.limits;
     assert!(rt;
         limits.expand <= 120

@@ -1,12 +1,12 @@
 //! What scripts and expressions give over entries and looks.
-ghost use Rattle.std.specs.Prelude.{◌≤◌, length};
+ghost use Rattle.std.specs.Prelude.{◌≡◌, ◌≤◌, IfOk, length};
 
 mod boards;
 mod conditions;
 
 use base_texts::{Name, NoMemory, Stop};
 use boards::{Board, Window};
-use conditions::{expr_fits, is_textless, script_fits, slots_fit};
+use conditions::{expr_fits, is_textless, script_fits, slots_fit, table_fits};
 use script_code::{compile, compile_expr, exec, number};
 use script_reader::{parse_expr, parse_script};
 use spec_script::{ExecFault, Expr, Script, Seen, Value};
@@ -23,6 +23,27 @@ fn slots_of(alloc: Global, pairs: &[(&str, u32)]) -> Result<Vec<(Name, u32)>, No
     Ok(slots)
 }
 
+/// The slot of a name: that of its first pair, and 0 where no pair has it.
+fn slot_among(slots: &[(Name, u32)], name: &Name) -> u32 {
+    for (n, slot) in slots {
+        if n == name {
+            return *slot;
+        }
+    }
+    0
+}
+
+/// The slots of these names.
+fn table_of(alloc: Global, names: &[Name], slots: &[(Name, u32)]) -> Result<Vec<u32>, NoMemory>
+    ensures { IfOk result (λ table. length table.items ≡ length names.now) }
+{
+    let mut table = Vec::new(alloc);
+    for name in names {
+        table.push(slot_among(slots, name))?;
+    }
+    Ok(table)
+}
+
 /// Compiles a script and runs it over the slots.
 fn run_over(
     rt: &impl Abort,
@@ -31,12 +52,12 @@ fn run_over(
     slots: &[(Name, u32)],
     board: &mut Board,
 ) -> Result<Value, Stop<ExecFault>> {
-    let stmts = script.stmts.list();
     let size = board.entries.len();
-    assert!(rt; stmts.len() > 0);
-    assert!(rt; script_fits(stmts, slots));
-    assert!(rt; slots_fit(slots, size));
-    let code = compile(alloc, script, slots)?;
+    assert!(rt; script_fits(script.stmts.list(), slots));
+    let script = compile(alloc, script)?;
+    let table = table_of(alloc, script.names(), slots)?;
+    assert!(rt; table_fits(table.as_slice(), size));
+    let code = script.over(alloc, table)?;
     exec(alloc, &code, board)
 }
 

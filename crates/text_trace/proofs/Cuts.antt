@@ -293,7 +293,7 @@ cut_off_has_begun_within tree world calls old new cut place =
     let prepared : List DriverState = roster_prepared old (instances_wanted tree world old) in
     let made : List DriverState = calls_made world.runners places cut.made prepared in
     let whole : calls_made world.runners places cut.unmade made ≡ roster_after_run tree world old calls =
-        sym (made_both world.runners places cut.made cut.unmade prepared) ∙ ap (λ (cs : List RunnerCall). calls_made world.runners places cs prepared) cut.all in
+    sym (made_both world.runners places cut.made cut.unmade prepared) ∙ ap (λ (cs : List RunnerCall). calls_made world.runners places cs prepared) cut.all in
     begun_within old made new (roster_after_run tree world old calls) place
     (roster_both old prepared made (prepared_same old (instances_wanted tree world old)) (all_made_same world.runners places cut.made prepared))
     (subst (IsSameRoster made) whole (all_made_same world.runners places cut.unmade made))

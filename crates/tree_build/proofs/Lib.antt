@@ -1,3 +1,4 @@
+pub mod AnyUid
 pub mod ContentFits
 pub mod ContentLaw
 pub mod ElementTexts
@@ -11,6 +12,7 @@ pub mod PortFits
 pub mod PortLists
 pub mod PortTexts
 pub mod ReadLaw
+pub mod SameAttributes
 pub mod ScriptAnswers
 pub mod ScriptFits
 pub mod ShortTexts

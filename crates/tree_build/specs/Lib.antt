@@ -1,6 +1,6 @@
+pub mod Contents
 pub mod ContentSteps
 pub mod Gives
 pub mod Named
 pub mod ReadSteps
-pub mod Scripts
 pub mod Seen

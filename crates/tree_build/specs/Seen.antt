@@ -28,7 +28,7 @@ trees_seen entries = map (λ tree. (tree.0, tree.1.now)) entries
 
 -- what a file defines
 abbrev pub file_seen : Defined → File
-file_seen file = record { trees = trees_seen file.trees.now.entries; models = file.models.now; version = file.version }
+file_seen file = record { trees = trees_seen file.trees.now.entries; models = file.contents; version = file.version }
 
 -- some IDs
 abbrev pub ids_seen : List (Bor (List ℕ)) → List (List ℕ)

@@ -8,7 +8,8 @@ ghost use Rattle.spec_tree_file.specs.Reads.{main_of, most_levels, only_id, read
 ghost use Rattle.tree_build.specs.ReadSteps.{file_steps, main_read, read_root, root_read, trees_read};
 ghost use Rattle.tree_build.specs.Seen.{file_seen, trees_seen};
 
-use crate::scripts::Scripts;
+use crate::content::Source;
+use crate::contents::Contents;
 use crate::tree::{File, Place, read_node};
 use crate::trees::{Trees, not_root, tree_of, trees_of};
 use crate::version::version_in;
@@ -76,6 +77,7 @@ fn read_root(
     let place = Place {
         left: most_levels(),
         opened: opened.as_slice(),
+        mark: root.place,
     };
     read_node(file, place, root, numbers)
 }
@@ -140,12 +142,12 @@ fn trees_read(
     let Some(id) = main_of(asked, attributes, &trees) else {
         return Err(Stop::Fault(BuildFault::NoMain));
     };
+    let source = Source { alloc, models };
     let file = File {
         alloc,
         trees: &trees,
-        models,
         version,
-        scripts: Scripts::below(alloc, &trees, id)?,
+        contents: Contents::below(source, &trees, version, id)?,
     };
     main_read(alloc, &file, id)
 }

@@ -11,18 +11,27 @@ ghost use Rattle.tree_build.specs.Seen.{rules_seen, text_seen};
 
 use crate::ports::ports_in;
 use crate::rules::{Rules, all_known, rules_of};
-use crate::tree::File;
+use crate::scripts::script;
 use base_tables::has_code;
-use base_texts::{Boxed, Items, Name, Shared, Stop};
+use base_texts::{Boxed, Name, Shared, Stop};
 use spec_script::Script;
-use spec_tree::{Guards, Kind, Port};
+use spec_tree::{Guards, Kind, Port, Ports};
 use spec_tree_file::{BuildFault, Content, Form, Head};
+use std::alloc::Global;
 use std::mem::replace;
-use tree_manifest::attribute;
+use tree_manifest::{Manifest, attribute};
+
+/// By what the attributes of nodes are read.
+#[derive(Clone, Copy)]
+pub struct Source<'a> {
+    pub alloc: Global,
+    /// The models of the file.
+    pub models: &'a Manifest,
+}
 
 /// The script of the text, if there is one. The fault `BadScript` where it reads as none.
 fn script_of(
-    file: &File<'_>,
+    source: Source<'_>,
     uid: u32,
     text: Option<&Name>,
 ) -> Result<Option<Shared<Script>>, Stop<BuildFault>>
@@ -31,8 +40,8 @@ fn script_of(
     let Some(text) = text else {
         return Ok(None);
     };
-    match file.scripts.read(file.alloc, text) {
-        Ok(script) => Ok(Some(script)),
+    match script(source.alloc, text.list()) {
+        Ok(script) => Ok(Some(Shared::of(source.alloc, script)?)),
         Err(Stop::Fault(fault)) => Err(Stop::Fault(BuildFault::BadScript { uid, fault })),
         Err(Stop::NoMemory) => Err(Stop::NoMemory),
     }
@@ -40,14 +49,14 @@ fn script_of(
 
 /// The guard in the attribute of this name, if there is one. The fault `BadScript` where it reads as none.
 fn guard_in(
-    file: &File<'_>,
+    source: Source<'_>,
     uid: u32,
     attributes: &[(Name, Name)],
     name: &[u8],
 ) -> Result<Option<Shared<Script>>, Stop<BuildFault>>
     ensures { Gives result (guard_in uid attributes.now name.now) }
 {
-    script_of(file, uid, attribute(attributes, name))
+    script_of(source, uid, attribute(attributes, name))
 }
 
 /// Whether the name begins with `_`, as those of all guards do.
@@ -99,7 +108,7 @@ fn put(place: &mut Option<Shared<Script>>, guard: Option<Shared<Script>>)
 /// Puts the guards of a node in their places, each looked for by its name. The fault is the first one's.
 #[inline(never)]
 fn put_guards(
-    file: &File<'_>,
+    source: Source<'_>,
     uid: u32,
     attributes: &[(Name, Name)],
     guards: &mut Guards,
@@ -108,32 +117,35 @@ fn put_guards(
 {
     put(
         &mut guards.failure_if,
-        guard_in(file, uid, attributes, b"_failureIf")?,
+        guard_in(source, uid, attributes, b"_failureIf")?,
     );
     put(
         &mut guards.success_if,
-        guard_in(file, uid, attributes, b"_successIf")?,
+        guard_in(source, uid, attributes, b"_successIf")?,
     );
     put(
         &mut guards.skip_if,
-        guard_in(file, uid, attributes, b"_skipIf")?,
+        guard_in(source, uid, attributes, b"_skipIf")?,
     );
     put(
         &mut guards.while_true,
-        guard_in(file, uid, attributes, b"_while")?,
+        guard_in(source, uid, attributes, b"_while")?,
     );
     put(
         &mut guards.on_success,
-        guard_in(file, uid, attributes, b"_onSuccess")?,
+        guard_in(source, uid, attributes, b"_onSuccess")?,
     );
     put(
         &mut guards.on_failure,
-        guard_in(file, uid, attributes, b"_onFailure")?,
+        guard_in(source, uid, attributes, b"_onFailure")?,
     );
-    put(&mut guards.post, guard_in(file, uid, attributes, b"_post")?);
+    put(
+        &mut guards.post,
+        guard_in(source, uid, attributes, b"_post")?,
+    );
     put(
         &mut guards.on_halted,
-        guard_in(file, uid, attributes, b"_onHalted")?,
+        guard_in(source, uid, attributes, b"_onHalted")?,
     );
     Ok(())
 }
@@ -141,7 +153,7 @@ fn put_guards(
 /// The guards of a node, or the first fault. Most nodes have none, and then no name is looked for.
 #[tactic(auto, using(crate::proofs::NoGuards::no_guards))]
 fn guards_in(
-    file: &File<'_>,
+    source: Source<'_>,
     uid: u32,
     attributes: &[(Name, Name)],
 ) -> Result<Guards, Stop<BuildFault>>
@@ -151,7 +163,7 @@ fn guards_in(
     if !any_private(attributes) {
         return Ok(guards);
     }
-    match put_guards(file, uid, attributes, &mut guards) {
+    match put_guards(source, uid, attributes, &mut guards) {
         Ok(()) => Ok(guards),
         Err(stop) => {
             drop(guards);
@@ -237,7 +249,7 @@ fn autoremap_in(
 /// The content of a node with these ports and this text of its code. The fault `BadScript` where a script can't be
 /// read.
 fn scripts_in(
-    file: &File<'_>,
+    source: Source<'_>,
     uid: u32,
     ports: Vec<Port>,
     text: Option<&Name>,
@@ -246,20 +258,20 @@ fn scripts_in(
 ) -> Result<Boxed<Content>, Stop<BuildFault>>
     ensures { Gives result (scripts_in uid ports.items (option_copied text.entry) autoremap attributes.now) }
 {
-    let code = script_of(file, uid, text)?;
-    let guards = guards_in(file, uid, attributes)?;
+    let code = script_of(source, uid, text)?;
+    let guards = guards_in(source, uid, attributes)?;
     let content = Content {
-        ports: Items::of(ports),
+        ports: Ports::of(source.alloc, ports)?,
         code,
         guards,
         autoremap,
     };
-    Ok(Boxed::of(file.alloc, content)?)
+    Ok(Boxed::of(source.alloc, content)?)
 }
 
 /// The content of a node with these ports, or the first fault of the rest.
 fn rest_in(
-    file: &File<'_>,
+    source: Source<'_>,
     uid: u32,
     kind: Kind,
     form: Form,
@@ -270,7 +282,7 @@ fn rest_in(
 {
     let text = code_text(uid, has_code(kind), attributes)?;
     let autoremap = autoremap_in(uid, kind, form, attributes)?;
-    scripts_in(file, uid, ports, text, autoremap, attributes)
+    scripts_in(source, uid, ports, text, autoremap, attributes)
 }
 
 /// Whether a node has no attribute but an ID and a name.
@@ -294,7 +306,7 @@ fn form_fits(form: Form, attributes: &[(Name, Name)]) -> bool
 /// What the attributes of a node say that may have these ports, or the first fault: `UnknownPort`, `OldSubTree`,
 /// then those of values and of scripts.
 fn ruled_in(
-    file: &File<'_>,
+    source: Source<'_>,
     uid: u32,
     kind: Kind,
     form: Form,
@@ -309,21 +321,21 @@ fn ruled_in(
     if !form_fits(form, attributes) {
         return Err(Stop::Fault(BuildFault::OldSubTree { uid }));
     }
-    let ports = ports_in(file.alloc, uid, has_code(kind), rules, attributes)?;
-    rest_in(file, uid, kind, form, attributes, ports)
+    let ports = ports_in(source.alloc, uid, has_code(kind), rules, attributes)?;
+    rest_in(source, uid, kind, form, attributes, ports)
 }
 
 /// What the attributes of a node say, or the first fault. It is made on the heap, where it waits while the children of
 /// the node are read, since the stack holds a level for each node above.
 #[inline(never)]
 pub fn content_in(
-    file: &File<'_>,
+    source: Source<'_>,
     uid: u32,
     head: &Head,
     attributes: &[(Name, Name)],
 ) -> Result<Boxed<Content>, Stop<BuildFault>>
-    ensures { Gives result (content_in uid file.now.models.now head.now.kind head.now.id head.now.form attributes.now) }
+    ensures { Gives result (content_in uid source.entry.models.now head.now.kind head.now.id head.now.form attributes.now) }
 {
-    let rules = rules_of(file.models, head);
-    ruled_in(file, uid, head.kind, head.form, rules, attributes)
+    let rules = rules_of(source.models, head);
+    ruled_in(source, uid, head.kind, head.form, rules, attributes)
 }

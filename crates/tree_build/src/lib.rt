@@ -4,6 +4,7 @@
 mod attributes;
 mod building;
 mod content;
+mod contents;
 mod head;
 mod ports;
 mod rules;

@@ -5,16 +5,15 @@ ghost use Rattle.spec_tree_file.specs.Reads.{is_subtree, node_by, node_of, nodes
 ghost use Rattle.tree_build.specs.ReadSteps.{name_in};
 ghost use Rattle.tree_build.specs.Seen.{file_seen, ids_seen};
 
-use crate::content::content_in;
+use crate::contents::Contents;
 use crate::head::head_of;
-use crate::scripts::Scripts;
 use crate::trees::{Trees, tree_of};
 use base_tables::{MOST_NODES, MOST_SCOPES, takes};
 use base_texts::{Boxed, Items, Name, NoMemory, Stop};
 use spec_tree::{Kind, Term};
 use spec_tree_file::{BuildFault, Content, Element, Head, Numbers, Version};
 use std::alloc::Global;
-use tree_manifest::{Manifest, attribute};
+use tree_manifest::attribute;
 
 /// What a file defines: its trees, the models of its leaves, and the version in which its nodes are
 /// read.
@@ -22,10 +21,9 @@ use tree_manifest::{Manifest, attribute};
 pub struct File<'a> {
     pub alloc: Global,
     pub trees: &'a Trees<'a>,
-    pub models: &'a Manifest,
     pub version: Version,
-    /// What is parsed before the nodes are read.
-    pub scripts: Scripts,
+    /// What the attributes of nodes say, by the models of the file.
+    pub contents: Contents<'a>,
 }
 
 /// Where a node stands.
@@ -35,6 +33,8 @@ pub struct Place<'a> {
     pub left: u32,
     /// The IDs of the trees that are being opened.
     pub opened: &'a [&'a Name],
+    /// The place of the mark of its element, or of the one above it.
+    pub mark: u32,
 }
 
 /// Whether the tree of this ID is being opened.
@@ -156,7 +156,9 @@ fn node_of(
         Gives result (node_of f.models (read_node f p.left) head attributes.now (ids_seen p.opened.now)
         children.now numbers numbers.nodes) }
 {
-    let content = content_in(file, numbers.nodes, &head, attributes)?;
+    let content = file
+        .contents
+        .content(numbers.nodes, place.mark, &head, attributes)?;
     let (terms, numbers) = nodes_by(file, place, children, numbers)?;
     let term = term_of(file.alloc, head, attributes, content, terms)?;
     Ok((term, numbers))
@@ -197,6 +199,7 @@ fn opened_by(
     let inside = Place {
         left: place.left,
         opened: inner.as_slice(),
+        mark: place.mark,
     };
     let numbers = Numbers {
         nodes: uid,
@@ -256,6 +259,7 @@ pub fn read_node(
     let below = Place {
         left: place.left - 1,
         opened: place.opened,
+        mark: element.place,
     };
     match head_of(file.alloc, file.version, element)? {
         Some(head) => node_by(file, below, head, element, numbers),

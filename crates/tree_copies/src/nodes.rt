@@ -1,9 +1,8 @@
 ghost use Rattle.std.specs.Prelude.{◌≡◌, IfOk};
 
 use crate::scripts::share_script;
-use base_texts::{Items, NoMemory};
-use spec_tree::{Guards, Port, PortValue};
-use std::alloc::Global;
+use base_texts::NoMemory;
+use spec_tree::Guards;
 
 /// The guards once more. Their scripts are not copied. The error is want of memory.
 pub fn share_guards(guards: &Guards) -> Result<Guards, NoMemory>
@@ -19,28 +18,4 @@ pub fn share_guards(guards: &Guards) -> Result<Guards, NoMemory>
         post: share_script(&guards.post)?,
         on_halted: share_script(&guards.on_halted)?,
     })
-}
-
-/// An equal value of a port.
-fn copy_value(alloc: Global, value: &PortValue) -> Result<PortValue, NoMemory>
-    ensures { IfOk result (λ copied. copied ≡ value.now) }
-{
-    match value {
-        PortValue::Lit(value) => Ok(PortValue::Lit(value.copy(alloc)?)),
-        PortValue::Key(key) => Ok(PortValue::Key(key.copy(alloc)?)),
-    }
-}
-
-/// Equal ports.
-pub fn copy_ports(alloc: Global, ports: &[Port]) -> Result<Items<Port>, NoMemory>
-    ensures { IfOk result (λ copied. copied ≡ ports.now) }
-{
-    let mut copied = Vec::with_capacity(alloc, ports.len())?;
-    for port in ports {
-        copied.push(Port {
-            name: port.name.copy(alloc)?,
-            value: copy_value(alloc, &port.value)?,
-        })?;
-    }
-    Ok(Items::of(copied))
 }

@@ -19,7 +19,7 @@ use Rattle.spec_world.specs.declared.world.Row.{Row}
 use Rattle.spec_tree.specs.BuiltIns.{ports_of}
 use Rattle.spec_run.specs.Rules.Answers.{pass_on, same_answer}
 use Rattle.spec_run.specs.Rules.Choices.{chosen_branch, if_then_else, if_then_else_after, only_branch, switch, while_do_else, while_do_else_after}
-use Rattle.spec_run.specs.Rules.Decorators.{as_it_is, child_as, delay, is_late, keep_running, keep_running_after, run_once, run_once_after, since_of, timeout}
+use Rattle.spec_run.specs.Rules.OneVisit.{as_it_is, child_as, delay, is_late, keep_running, keep_running_after, run_once, run_once_after, since_of, timeout}
 use Rattle.spec_run.specs.Rules.Turns.{limit_of, one_more, turn_after, turn_again, turns, turns_on}
 use Rattle.spec_run.specs.Steps.{Rule, keep, over, reset, visit}
 use Rattle.spec_run.specs.Visit.{status_of}

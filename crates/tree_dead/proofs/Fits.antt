@@ -22,7 +22,7 @@ use Rattle.spec_tree.specs.declared.term.PortValue.TheVariants.{Lit, Key}
 use Rattle.spec_tree.specs.declared.term.Term.{Term, Term-F, rec-Term}
 use Rattle.spec_world.specs.declared.world.Row.{Row}
 use Rattle.spec_run.specs.Rules.Choices.{chosen_of}
-use Rattle.spec_run.specs.Rules.Decorators.{mark_of, since_of}
+use Rattle.spec_run.specs.Rules.OneVisit.{mark_of, since_of}
 use Rattle.spec_run.specs.Rules.Recoveries.{recoveries_of}
 use Rattle.spec_run.specs.Rules.RoundRobins.{rotation_of}
 use Rattle.spec_run.specs.Rules.Sequences.{index_of, seen_of}

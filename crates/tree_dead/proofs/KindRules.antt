@@ -10,7 +10,7 @@ use Rattle.spec_tree.specs.declared.term.Port.{Port}
 use Rattle.spec_world.specs.declared.world.Row.{Row}
 use Rattle.spec_tree.specs.BuiltIns.{has_rule, ports_of}
 use Rattle.spec_run.specs.Rules.Choices.{chosen_of}
-use Rattle.spec_run.specs.Rules.Decorators.{as_it_is, forced, inverted, mark_of}
+use Rattle.spec_run.specs.Rules.OneVisit.{as_it_is, forced, inverted, mark_of}
 use Rattle.spec_run.specs.Rules.Kinds.{rule}
 use Rattle.spec_run.specs.Rules.Parallels.{counts_of}
 use Rattle.spec_run.specs.Rules.Rates.{pace_of}

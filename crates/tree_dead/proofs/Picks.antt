@@ -24,7 +24,7 @@ use Rattle.spec_tree.specs.declared.term.PortValue.TheVariants.{Lit, Key}
 use Rattle.spec_tree.specs.BuiltIns.{fits}
 use Rattle.spec_run.specs.Done.{State}
 use Rattle.spec_run.specs.Ports.{given_at, new_memo, next_pace, number_at, number_by, pace_start, parallel_start, picked, rate_by, recoveries_start, run_once_picked, since_start, then_skip, turns_start, value_by, within}
-use Rattle.spec_run.specs.Rules.Decorators.{mark_of}
+use Rattle.spec_run.specs.Rules.OneVisit.{mark_of}
 use Rattle.spec_run.specs.Rules.RoundRobins.{rotation_at, rotation_of}
 use Rattle.spec_run.specs.Rules.Sequences.{index_of}
 use Rattle.spec_run.specs.Sites.{Site}

@@ -26,7 +26,7 @@ use Rattle.spec_run.specs.declared.status.Status.{Status}
 use Rattle.spec_run.specs.declared.status.Status.TheVariants as status
 use Rattle.spec_run.specs.Rules.Answers.{is_seen, pass_on, same_answer}
 use Rattle.spec_run.specs.Rules.Choices.{chosen_branch, if_then_else, if_then_else_after, only_branch, switch, while_do_else, while_do_else_after}
-use Rattle.spec_run.specs.Rules.Decorators.{as_it_is, child_as, forced, inverted, is_late, keep_running_after, run_once, run_once_after}
+use Rattle.spec_run.specs.Rules.OneVisit.{as_it_is, child_as, forced, inverted, is_late, keep_running_after, run_once, run_once_after}
 use Rattle.spec_run.specs.Rules.Kinds.{rule}
 use Rattle.spec_run.specs.Rules.Parallels.{counted, failure_holds, parallel, parallel_after, success_holds}
 use Rattle.spec_run.specs.Rules.Pipelines.{pipeline, pipeline_after, pipeline_end}

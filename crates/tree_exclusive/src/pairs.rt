@@ -9,7 +9,8 @@ ghost use Rattle.tree_exclusive.specs.Steps.{IsFound, Rising, below, beyond, by_
 use crate::laws::no_run_holds_exclusive_leaves_together;
 use crate::leaves::leaves_of;
 use crate::meetings::{may_meet, meeting_at};
-use crate::steps::{Step, nodes_in};
+use crate::steps::Step;
+use base_tables::nodes_in;
 use base_texts::{Name, NoMemory};
 use spec_exclusive::{Meeting, Pair};
 use spec_tree::{Term, Tree};
@@ -43,7 +44,8 @@ fn keep_each(
     meeting: Meeting,
     pairs: &mut Vec<Pair>,
 ) -> Result<(), NoMemory>
-    ensures { OnOk result (pairs.new.items ≡ pairs.old.items ++ take (100 - length pairs.old.items) (map (λ u. pair_of earlier u meeting) later.now)) }
+    ensures { OnOk result (pairs.new.items
+        ≡ pairs.old.items ++ take (100 - length pairs.old.items) (map (λ u. pair_of earlier u meeting) later.now)) }
 {
     for uid in later {
         if pairs.len() >= MOST_PAIRS {

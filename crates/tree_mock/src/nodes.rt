@@ -9,10 +9,10 @@ use crate::names::name_of;
 use crate::patterns::is_match;
 use base_texts::{Items, Name, NoMemory, Shared};
 use spec_script::{Script, Value};
-use spec_tree::{Guards, Kind, Port, PortValue, Term};
+use spec_tree::{Guards, Kind, Port, PortValue, Ports, Term};
 use spec_tree_file::{Configuration, ReturnStatus, Rule, Rules};
 use std::alloc::Global;
-use tree_copies::{copy_ports, share_guards, share_script};
+use tree_copies::{share_guards, share_script};
 
 /// The first rule whose pattern matches the path. None where there is none.
 pub fn rule_of<'r>(rules: &'r [Rule], path: &[u8]) -> Option<&'r Rule>
@@ -85,7 +85,7 @@ fn always(alloc: Global, status: ReturnStatus, name: Name, guards: Guards) -> Re
         kind: always_kind(status),
         id: always_id(alloc, status)?,
         name,
-        ports: Items::of(Vec::new(alloc)),
+        ports: Ports::none(),
         code: None,
         guards,
         autoremap: false,
@@ -101,7 +101,7 @@ fn leaf(alloc: Global, id: &Name, node: &Term) -> Result<Term, NoMemory>
         kind: Kind::Leaf,
         id: id.copy(alloc)?,
         name: node.name.copy(alloc)?,
-        ports: copy_ports(alloc, node.ports.list())?,
+        ports: node.ports.share()?,
         code: None,
         guards: share_guards(&node.guards)?,
         autoremap: false,
@@ -110,7 +110,7 @@ fn leaf(alloc: Global, id: &Name, node: &Term) -> Result<Term, NoMemory>
 }
 
 /// The ports of a Delay of so many milliseconds.
-fn delay_ports(alloc: Global, ms: u32) -> Result<Items<Port>, NoMemory>
+fn delay_ports(alloc: Global, ms: u32) -> Result<Ports, NoMemory>
     ensures { IfOk result (λ ports. ports ≡ delay_port ms ∷ []) }
 {
     let mut ports = Vec::new(alloc);
@@ -118,7 +118,7 @@ fn delay_ports(alloc: Global, ms: u32) -> Result<Items<Port>, NoMemory>
         name: name_of(alloc, "delay_msec")?,
         value: PortValue::Lit(Value::Int(i64::from(ms))),
     })?;
-    Ok(Items::of(ports))
+    Ports::of(alloc, ports)
 }
 
 /// The leaf that answers as a configuration says, with its script.
@@ -194,7 +194,7 @@ pub fn with_children(alloc: Global, node: &Term, children: Items<Term>) -> Resul
         kind: node.kind,
         id: node.id.copy(alloc)?,
         name: node.name.copy(alloc)?,
-        ports: copy_ports(alloc, node.ports.list())?,
+        ports: node.ports.share()?,
         code: share_script(&node.code)?,
         guards: share_guards(&node.guards)?,
         autoremap: node.autoremap,

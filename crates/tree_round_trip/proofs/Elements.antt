@@ -94,24 +94,24 @@ all_text (c ∷ cs) h =
 white_both : (a b : List ℕ) → list_all is_white a ≡ true → list_all is_white b ≡ true → list_all is_white (a ++ b) ≡ true
 white_both a b p q = list_all-append is_white a b ∙ rw (p, q) refl
 
-or_true : (a b : Bool) → b ≡ true → (a || b) ≡ true
+pub or_true : (a b : Bool) → b ≡ true → (a || b) ≡ true
 or_true true b h = refl
 or_true false b h = h
 
 -- ---- What a printed element spells
 
 -- an element at this indentation, after the rest of the line before it
-record Spelling (e : Element) (blanks before : List ℕ) : Type 0 where
-  rest : List ℕ
-  begins : concat (lines_of e blanks) ≡ blanks ++ 60 ∷ rest
-  utf8 : IsUtf8 (concat (lines_of e blanks))
-  pieces : List Piece
-  valid : AllByRecursion IsPiece pieces
-  text : before ++ concat (lines_of e blanks) ≡ pieces_written pieces ++ 10 ∷ []
-  placed : ℕ → Element
-  same : (at : ℕ) → unplaced (placed at) ≡ unplaced e
-  deep : (at : ℕ) → depth_of (placed at) ≡ depth_of e
-  nested : (at : ℕ) (inside : Bool) (ps : List Piece) (tags : List Tag) → HaveTags (at + length (pieces_written pieces)) ps tags → HaveTags at (pieces ++ ps) (tags_of (placed at) inside ++ tags)
+pub record Spelling (e : Element) (blanks before : List ℕ) : Type 0 where
+  pub rest : List ℕ
+  pub begins : concat (lines_of e blanks) ≡ blanks ++ 60 ∷ rest
+  pub utf8 : IsUtf8 (concat (lines_of e blanks))
+  pub pieces : List Piece
+  pub valid : AllByRecursion IsPiece pieces
+  pub text : before ++ concat (lines_of e blanks) ≡ pieces_written pieces ++ 10 ∷ []
+  pub placed : ℕ → Element
+  pub same : (at : ℕ) → unplaced (placed at) ≡ unplaced e
+  pub deep : (at : ℕ) → depth_of (placed at) ≡ depth_of e
+  pub nested : (at : ℕ) (inside : Bool) (ps : List Piece) (tags : List Tag) → HaveTags (at + length (pieces_written pieces)) ps tags → HaveTags at (pieces ++ ps) (tags_of (placed at) inside ++ tags)
 
 abbrev texts_of : List Element → List ℕ → List ℕ
 texts_of es blanks = concat (flat_map (λ (below : Lines). below blanks) (map lines_of es))
@@ -145,7 +145,7 @@ no_spellings blanks =
           subst (λ (n : ℕ). HaveTags n ps tags) end h;
     }
 
-valid_both : (ps qs : List Piece) → AllByRecursion IsPiece ps → AllByRecursion IsPiece qs → AllByRecursion IsPiece (ps ++ qs)
+pub valid_both : (ps qs : List Piece) → AllByRecursion IsPiece ps → AllByRecursion IsPiece qs → AllByRecursion IsPiece (ps ++ qs)
 valid_both [] qs h k = k
 valid_both (p ∷ ps) qs h k = (h.0, valid_both ps qs h.1 k)
 
@@ -374,7 +374,7 @@ spell_filled name attributes child children place blanks before f t =
 
 -- ---- All elements
 
-abbrev Spelled : Element → Type 0
+abbrev pub Spelled : Element → Type 0
 Spelled e =
     (blanks before : List ℕ) → can_be_written e ≡ true → list_all is_white blanks ≡ true → list_all is_white before ≡ true → Spelling e blanks before
 
@@ -408,7 +408,7 @@ whole_spelled y blanks before can white following =
     let name = both (is_name y.name) (is_utf8 y.name) one.0 in
     spell_node y.name y.attributes y.children y.place blanks before (record { named = name.0; spelt = IsUtf8-from_is_utf8 y.name name.1; stand = two.0; single = three.0; white = white; following = following }) three.1
 
-spelled : (e : Element) → Spelled e
+pub spelled : (e : Element) → Spelled e
 spelled = ind-Element Spelled (λ x y is. subst (λ (z : Element-F Element). Spelled (roll-Element z)) is (whole_spelled y))
 
 -- the printed bytes of an element spell it, at the places that it has among them

@@ -3,12 +3,14 @@ pub mod Elements
 pub mod Lone
 pub mod Marks
 pub mod Openings
+pub mod PlainTexts
 pub mod ReadBack
 pub mod ReadContent
 pub mod ReadHeads
 pub mod ReadNodes
 pub mod ReadTrees
 pub mod ReadValues
+pub mod Remarks
 pub mod Trees
 pub mod Utf8
 pub mod Values

@@ -1,5 +1,5 @@
-ghost use Rattle.std.specs.Prelude.{◌≡◌, ◌≤◌, List, [], ℕ, IsTrue, None, Ok, Option};
-ghost use Rattle.std.specs.List.{concat, flat_map, list_all};
+ghost use Rattle.std.specs.Prelude.{◌≡◌, ◌≤◌, ◌++◌, List, [], ℕ, IsTrue, None, Ok, Option, map};
+ghost use Rattle.std.specs.List.{AllByRecursion, concat, flat_map, list_all};
 ghost use Rattle.spec_tree_file.specs.Reads.{reads};
 ghost use Rattle.tree_elements.specs.Valid.{IsValid as IsValidElement};
 ghost use Rattle.spec_tree_file.specs.Elements.{Spells, depth_of};
@@ -14,6 +14,7 @@ ghost use Rattle.spec_tree.specs.Trees.{IsValid};
 ghost use Rattle.spec_tree.specs.declared.term.Tree.{Tree};
 ghost use Rattle.tree_round_trip.specs.Openings.{OpensAlike};
 ghost use Rattle.tree_round_trip.specs.Printed.{lines_of, unplaced};
+ghost use Rattle.tree_round_trip.specs.Remarks.{CanRemark, remark_line};
 ghost use Rattle.tree_round_trip.specs.TreeElements.{element_of};
 
 /// A value without the byte 0 is printed as one that may stand between two `"`, and its printed
@@ -48,4 +49,14 @@ pub fn printed_trees_read_back()
     ensures read { (root : Element) (models : Models) (asked : Option (List ℕ)) (tree : Tree) → IsValidElement root →
         manifest_in root ≡ Ok models → reads models asked root ≡ Ok tree
         → (f : Element) × Spells (concat (tree_lines tree)) f × (manifest_in f ≡ Ok []) × (reads [] None f ≡ Ok tree) }
+{}
+
+/// So do the printed bytes of a tree with comments before them, each on a line of its own.
+pub fn printed_trees_read_back_after_comments()
+    ensures alike { (bodies : List (List ℕ)) (tree : Tree) → AllByRecursion CanRemark bodies → IsValid tree → OpensAlike tree
+        → (f : Element) × Spells (concat (map remark_line bodies) ++ concat (tree_lines tree)) f
+        × (manifest_in f ≡ Ok []) × (reads [] None f ≡ Ok tree) }
+    ensures lone { (bodies : List (List ℕ)) (tree : Tree) → AllByRecursion CanRemark bodies → IsValid tree → scope_count tree.term ≡ 0
+        → (f : Element) × Spells (concat (map remark_line bodies) ++ concat (tree_lines tree)) f
+        × (manifest_in f ≡ Ok []) × (reads [] None f ≡ Ok tree) }
 {}

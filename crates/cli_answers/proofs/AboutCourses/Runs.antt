@@ -4,7 +4,6 @@ use Rattle.std.specs.Prelude.{IfOk, IfSome, IsErrOf, OnErr, OnOk, length, option
 use Rattle.std.specs.List.{flat_map}
 use Rattle.std.specs.Option.{option_or}
 use Rattle.spec_run.specs.declared.join_fault.JoinFault.{JoinFault}
-use Rattle.run_arena.specs.declared.nodes.Node.{Node}
 use Rattle.run_arena.specs.Joining.{Joins}
 use Rattle.spec_program.specs.declared.exit.Exit.{Exit}
 use Rattle.spec_program.specs.declared.exit.Exit.TheVariants as exit
@@ -35,7 +34,7 @@ use Rattle.cli_refusals.specs.declared.refusal.Refusal.TheVariants as refusal
 use Rattle.spec_program.specs.Answers.{AtMoments, ClockLeft, ClockWithin, Gave, IfTold, Side, side}
 use Rattle.cli_answers.specs.Courses.Courses.{exit_of}
 use Rattle.cli_refusals.specs.Ends.{Ends, EndsAt, IsUntouched}
-use Rattle.spec_program.specs.Output.{AreUncalled, Output, UpToFault}
+use Rattle.spec_program.specs.Output.{AreUncalled, UpToFault}
 use Rattle.spec_program.specs.Courses.{Given, asked_by, given, joined_output, run_exit, run_output, traced}
 use Rattle.spec_run.specs.Joins.{first_missing, first_untold, lack_of}
 use Rattle.spec_tree.specs.Terms.{leaf_ids}

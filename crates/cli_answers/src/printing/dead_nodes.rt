@@ -10,8 +10,8 @@ ghost use Rattle.spec_outside.specs.Counts.{Rose};
 
 use crate::printing::nodes::{add_ids, id_of};
 use base_outside::Sink;
+use base_tables::nodes_in;
 use base_texts::{Name, NoMemory};
-use run_arena::nodes_in;
 use spec_tree::Tree;
 use std::alloc::Global;
 use text_lines::{TextStop, put_bytes, put_number, put_quoted, write_line};

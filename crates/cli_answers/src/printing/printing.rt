@@ -11,8 +11,8 @@ ghost use Rattle.spec_outside.specs.Counts.{Rose};
 
 use crate::printing::dead_nodes::write_dead;
 use base_outside::Sink;
+use base_tables::nodes_in;
 use base_texts::NoMemory;
-use run_arena::nodes_in;
 use spec_program::{Exit, Print};
 use spec_tree::Tree;
 use std::alloc::Global;

@@ -1,7 +1,7 @@
 ghost use Rattle.std.specs.Prelude.{IsTrue, ◌≡◌, ◌+◌, ◌<◌, ℕ};
 ghost use Rattle.base_tables.specs.BuiltInRows.{is_decorator};
 ghost use Rattle.base_tables.specs.Moves.{Fits, FitsChild, FitsStart, GoesOn, after, hears, hears_answer, keep_running_on, makes, next_place, rest};
-ghost use Rattle.spec_run.specs.Rules.Decorators.{forced, inverted, keep_running_after};
+ghost use Rattle.spec_run.specs.Rules.OneVisit.{forced, inverted, keep_running_after};
 ghost use Rattle.spec_run.specs.Rules.Kinds.{rule};
 
 use crate::decorators::once::{mark_kept, run_once_answered, run_once_begun};

@@ -1,6 +1,6 @@
 ghost use Rattle.std.specs.Prelude.{◌≡◌, ℕ};
 ghost use Rattle.base_tables.specs.Moves.{GoesOn, hears_answer, makes, run_once_on};
-ghost use Rattle.spec_run.specs.Rules.Decorators.{mark_of, run_once, run_once_after};
+ghost use Rattle.spec_run.specs.Rules.OneVisit.{mark_of, run_once, run_once_after};
 
 use crate::steps::{over, reset_and_give, visit};
 use spec_run::{Answer, Memo, Move, Span};

@@ -1,6 +1,6 @@
 ghost use Rattle.std.specs.Prelude.{◌≡◌};
 ghost use Rattle.base_tables.specs.Moves.{GoesOn, child_on, hears_answer, makes};
-ghost use Rattle.spec_run.specs.Rules.Decorators.{as_it_is, delay, is_late, since_of, timeout};
+ghost use Rattle.spec_run.specs.Rules.OneVisit.{as_it_is, delay, is_late, since_of, timeout};
 
 use crate::steps::{over, reset_and_give, visit};
 use spec_run::{Answer, Memo, Move, Since, Span};

@@ -5,7 +5,7 @@ use Rattle.spec_run.specs.declared.status.Answer.TheVariants.{Success, Failure, 
 use Rattle.spec_tree.specs.declared.term.Kind.{Kind}
 use Rattle.spec_tree.specs.declared.term.Kind.TheVariants.{Sequence, SequenceWithMemory, ReactiveSequence, Fallback, ReactiveFallback, Parallel, Switch, IfThenElse, WhileDoElse, RecoveryNode, PipelineSequence, RoundRobin, Inverter, ForceSuccess, ForceFailure, KeepRunningUntilFailure, Retry, Repeat, Timeout, Delay, RunOnce, RateController, SubTree}
 use Rattle.spec_run.specs.Rules.Choices.{chosen_of, if_then_else, switch, while_do_else}
-use Rattle.spec_run.specs.Rules.Decorators.{as_it_is, child_as, delay, forced, inverted, keep_running, mark_of, run_once, timeout}
+use Rattle.spec_run.specs.Rules.OneVisit.{as_it_is, child_as, delay, forced, inverted, keep_running, mark_of, run_once, timeout}
 use Rattle.spec_run.specs.Rules.Parallels.{counts_of, parallel}
 use Rattle.spec_run.specs.Rules.Pipelines.{pipeline}
 use Rattle.spec_run.specs.Rules.Rates.{pace_of, rate_controller}

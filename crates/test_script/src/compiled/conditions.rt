@@ -66,18 +66,18 @@ fn is_arithmetic(op: BinOp) -> bool
     }
 }
 
-/// Whether the statement may be compiled.
+/// Whether the statement may be compiled, and the names of its expression have slots.
 fn stmt_fits(stmt: &Stmt, slots: &[(Name, u32)]) -> bool
-    ensures { IsTrue result → IsCompilable slots.now stmt.now }
+    ensures { IsTrue result → IsCompilable stmt.now }
 {
     match stmt {
-        Stmt::Create(name, e) => is_listed(slots, name) && expr_fits(e, slots, 64),
-        Stmt::Assign(name, e) => is_listed(slots, name) && expr_fits(e, slots, 64),
-        Stmt::Change(op, name, e) => {
+        Stmt::Create(_, e) => expr_fits(e, slots, 64),
+        Stmt::Assign(_, e) => expr_fits(e, slots, 64),
+        Stmt::Change(op, _, e) => {
             if !is_arithmetic(*op) {
                 return false;
             }
-            is_listed(slots, name) && expr_fits(e, slots, 64)
+            expr_fits(e, slots, 64)
         }
         Stmt::Plain(e) => expr_fits(e, slots, 64),
     }
@@ -85,9 +85,16 @@ fn stmt_fits(stmt: &Stmt, slots: &[(Name, u32)]) -> bool
 
 /// Whether each statement may be compiled.
 pub fn script_fits(stmts: &[Stmt], slots: &[(Name, u32)]) -> bool
-    ensures { IsTrue result → All (IsCompilable slots.now) stmts.now }
+    ensures { IsTrue result → All IsCompilable stmts.now }
 {
     stmts.iter().all(|stmt| stmt_fits(stmt, slots))
+}
+
+/// Whether each of these slots is less than this number.
+pub fn table_fits(slots: &[u32], n: usize) -> bool
+    ensures { IsTrue result → All (λ slot. slot < n) slots.now }
+{
+    slots.iter().all(|slot| (*slot as usize) < n)
 }
 
 /// Whether each slot is less than this number.

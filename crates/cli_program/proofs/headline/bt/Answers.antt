@@ -1,5 +1,6 @@
 use Rattle.cli_commands.proofs.AnyBytes.{any_bytes}
 use Rattle.cli_program.proofs.Clauses.{begun_of, each_of, planned_of, whole_of}
+use Rattle.cli_program.proofs.Ranges.{command_fits}
 use Rattle.cli_program.proofs.headline.bt.Goals as goal
 
 pub returns-clause-whole : goal.returns-clause-whole
@@ -18,4 +19,4 @@ pub returns-clause-roster : goal.returns-clause-roster
 returns-clause-roster g c = rw (← c.replace.ensures.value) c.run_words-exit.ensures.kept.same
 
 pub returns-clause-planned : goal.returns-clause-planned
-returns-clause-planned g c = rw (← c.replace.ensures.value) (planned_of _ _ _ _ _ _ (record { reach = c.plans_reach.ensures; read = c.printed_trees_read_back.ensures.lone }) _ (any_bytes g.S.Shelf.read_gives (g.S.Shelf.holds c.args.shelf.now) _ _ _ _ _ _ _ c.run_words-exit.ensures.reads))
+returns-clause-planned g c = rw (← c.replace.ensures.value) (planned_of _ _ _ _ _ _ (record { reach = c.plans_reach.ensures; join = c.planned_trees_join.ensures; named = c.steps_are_named_plainly.ensures; short = c.plans_are_short.ensures; read = c.printed_trees_read_back_after_comments.ensures.lone }) _ (command_fits c.args.words.now) (any_bytes g.S.Shelf.read_gives (g.S.Shelf.holds c.args.shelf.now) _ _ _ _ _ _ _ c.run_words-exit.ensures.reads))

@@ -1,7 +1,7 @@
 use Rattle.std.proofs.Common.{[], ◌∷◌, ◌++◌, ap, arith, length, refl, sym, ◌∙◌}
 use Rattle.run_laws.proofs.Keeping.{term_keeps}
 use Rattle.run_arena.specs.declared.frame.Frame.{Frame}
-use Rattle.run_tick.specs.declared.machine.Next.TheVariants as next
+use Rattle.run_tick.specs.declared.progress.Next.TheVariants as next
 use Rattle.run_tick.proofs.Stacks.{can_step, step_made}
 use Rattle.run_tick.proofs.Tops.{going_on, less_on_top, one_on_top, top_written, went_on}
 use Rattle.run_tick.proofs.visiting.next_at_once.Goals as goal

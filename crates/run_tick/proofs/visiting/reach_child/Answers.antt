@@ -16,8 +16,8 @@ use Rattle.run_arena.specs.declared.nodes.Node.{Node}
 use Rattle.run_arena.specs.Ends.{StaysFit}
 use Rattle.run_arena.specs.Scenes.{Scene}
 use Rattle.run_arena.specs.Stages.{scene_on}
-use Rattle.run_tick.specs.declared.machine.Next.{Next}
-use Rattle.run_tick.specs.declared.machine.Next.TheVariants as next
+use Rattle.run_tick.specs.declared.progress.Next.{Next}
+use Rattle.run_tick.specs.declared.progress.Next.TheVariants as next
 use Rattle.run_tick.specs.Machine as turn
 use Rattle.run_tick.specs.Turns.{CameOn, Going, GoingOn, next_work, stack_work, step_of}
 use Rattle.run_tick.proofs.Later.{GoesNextBy, StepsBy, came_later, step_later}

@@ -8,7 +8,7 @@ use Rattle.spec_run.specs.Done.{Done}
 use Rattle.run_arena.specs.Ends.{StaysFit}
 use Rattle.run_arena.specs.Scenes.{Scene}
 use Rattle.run_arena.specs.Stages.{IsSame, scene_on}
-use Rattle.run_tick.specs.declared.machine.Next.TheVariants as next
+use Rattle.run_tick.specs.declared.progress.Next.TheVariants as next
 use Rattle.run_tick.specs.Turns.{CameOn, GoingOn, next_work}
 use Rattle.run_tick.proofs.visiting.reach_child.Given as goal
 

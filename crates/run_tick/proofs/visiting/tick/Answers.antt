@@ -14,9 +14,9 @@ use Rattle.run_arena.specs.declared.nodes.Node.{Node}
 use Rattle.run_arena.specs.Ends.{StaysFit}
 use Rattle.run_arena.specs.Nodes.{kept_at}
 use Rattle.run_arena.specs.Stages.{scene_on}
-use Rattle.run_tick.specs.declared.machine.Entered.TheVariants.{Answers, GoesOn}
-use Rattle.run_tick.specs.declared.machine.Next.TheVariants as next
-use Rattle.run_tick.specs.declared.machine.Reached.{Reached}
+use Rattle.run_tick.specs.declared.progress.Entered.TheVariants.{Answers, GoesOn}
+use Rattle.run_tick.specs.declared.progress.Next.TheVariants as next
+use Rattle.run_tick.specs.declared.progress.Reached.{Reached}
 use Rattle.run_tick.specs.Machine.{Turn}
 use Rattle.run_tick.specs.Machine as turn
 use Rattle.run_tick.specs.Turns.{CanVisitOn, Going, GoingOn, frame_work, next_work, reached_work, stack_work, step_of, turn_after, turn_work, visit_on}

@@ -5,7 +5,7 @@ use Rattle.spec_run.specs.Sites.{View}
 use Rattle.spec_tree.specs.Terms.{depth_of}
 use Rattle.run_arena.specs.Ends.{StaysFit}
 use Rattle.run_arena.specs.Stages.{IsSame, scene_on}
-use Rattle.run_tick.specs.declared.machine.Next.TheVariants as next
+use Rattle.run_tick.specs.declared.progress.Next.TheVariants as next
 use Rattle.run_tick.specs.Turns.{CanVisitOn, GoingOn, next_work, visit_on}
 use Rattle.run_tick.proofs.visiting.tick.Given as goal
 

@@ -1,26 +1,38 @@
-use Rattle.std.proofs.Common.{◌≡◌, ◌<◌, ◌≤◌, ◌∙◌, length, map, ap, subst, sym, arith}
-use Rattle.std.proofs.lemmas.Grind.{common_steps}
-use Rattle.script_code.specs.Codes.{program}
-use Rattle.script_code.specs.Programs.{Program, statement_of}
-use Rattle.script_code.specs.Sources.{slot_of}
-use Rattle.script_code.specs.Statements.{stmt_program, one_by_one}
-use Rattle.script_code.proofs.Reaches.{stmts_within}
-use Rattle.script_code.proofs.Same.{one_more_each, same_program}
+use Rattle.std.proofs.Common.{◌≡◌, ◌<◌, ◌∙◌, ℕ, List, [], length, map, ap, subst, sym}
+use Rattle.std.specs.List.{All, Contains, flat_map}
+use Rattle.std.specs.Str.{bytes_eq}
+use Rattle.std.proofs.lemmas.List.Elements.{All-weaker}
+use Rattle.indexmap.specs.IndexSet.{insert_all}
+use Rattle.spec_script.specs.declared.syntax.Stmt.{Stmt}
+use Rattle.spec_script.specs.Scripts.{stmt_names}
+use Rattle.script_code.specs.declared.codes.StmtCode.{StmtCode}
+use Rattle.script_code.specs.Codes.{program_over}
+use Rattle.script_code.specs.Programs.{program_of}
+use Rattle.script_code.specs.Sources.{place_in}
+use Rattle.script_code.specs.Statements.{one_by_one, slot_in, stmt_program}
+use Rattle.script_code.proofs.Numbered.{inserted, placed}
+use Rattle.script_code.proofs.Same.{same_program}
 use Rattle.script_code.proofs.compiling.compile.Goals as goal
 
-pub returns : goal.returns
-unfolding program
-returns c =
-    let names = slot_of c.args.slots.now in
-    let all : map stmt_program c.of.result ≡ map (statement_of names) c.args.script.now.stmts = grind (arith, common_steps) in
-    let same = ap one_by_one all ∙ same_program names c.args.script.now.stmts in
-    record {
-      meaning = same;
-      reach = λ n below. subst (λ k. k ≤ n) (sym (ap (λ (p : Program). p.reach) same)) (stmts_within n c.args.slots.now below c.args.script.now.stmts c.requires.compilable);
-    }
+pub statements-requires-clause-named : goal.statements-requires-clause-named
+statements-requires-clause-named c =
+    let xs = flat_map stmt_names c.list-stmts.result.now in
+    let names = insert_all bytes_eq [] xs in
+    subst (λ (ns : List (List ℕ)). All (λ name. place_in ns name < length ns) xs) (sym c.in_ok-names.ensures)
+    (All-weaker (Contains names) (λ name. place_in names name < length names) (λ name has. (placed names name has).0) xs (inserted [] xs))
 
-pub loop-stmt-preserved : goal.loop-stmt-preserved
-loop-stmt-preserved c =
-    let within : c.loop-stmt.stmt-index < length c.list-stmt-items.result.now = grind (arith, common_steps) in
-    ap (map stmt_program) c.in_ok-push.ensures.items
-    ∙ one_more_each stmt_program (statement_of (slot_of c.args.slots.now)) c.loop-stmt.stmts.items c.list-stmt-items.result.now c.loop-stmt.stmt-index c.in_ok-statement.field-0 c.stmt-item.result within c.stmt-item.is c.in_ok-statement.ensures c.loop-stmt.invariant
+pub returns : goal.returns
+unfolding program_over
+returns c =
+    let stmts = c.list-stmts.result.now in
+    let names = c.in_ok-names.names in
+    let coded = c.in_ok-of.ensures ∙ c.of.ensures in
+    let named = c.in_ok-of-2.ensures ∙ c.in_ok-names-2.ensures in
+    record {
+      meaning = λ slots.
+          ap (λ (codes : List StmtCode). one_by_one (map (stmt_program (slot_in slots)) codes)) coded
+          ∙ ap one_by_one (c.in_ok-codes.ensures.meaning (slot_in slots))
+          ∙ same_program (λ name. slot_in slots (place_in names name)) stmts
+          ∙ (λ i. program_of (λ name. slot_in slots (place_in (sym named i) name)) (c.list-stmts.ensures i));
+      names = named ∙ c.in_ok-names.ensures ∙ ap (λ (ss : List Stmt). insert_all bytes_eq [] (flat_map stmt_names ss)) c.list-stmts.ensures;
+    }

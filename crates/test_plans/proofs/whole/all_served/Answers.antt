@@ -1,4 +1,4 @@
-use Rattle.std.proofs.Common.{◌≡◌, ◌⊎◌, inl, inr, ℕ, ◌<◌, ◌≤◌, List, true, Option, None, Some, length, get_or, refl, ap, sym, subst, ◌∙◌, arith}
+use Rattle.std.proofs.Common.{◌≡◌, ◌⊎◌, inl, inr, ℕ, ◌<◌, ◌≤◌, List, map, true, Option, None, Some, length, get_or, refl, ap, sym, subst, ◌∙◌, arith}
 use Rattle.std.specs.Prelude.{slice_get}
 use Rattle.std.specs.Option.{is_some}
 use Rattle.std.proofs.Math.Nat.{eq-or-lt_of_le}
@@ -20,14 +20,14 @@ loop-row-preserved g c = λ k d low.
     let rows = c.args.world.now.rows in
     let i = c.loop-row.row-index in
     let row = c.row-item.result in
-    let drivers = g.D.Drivers.states c.args.drivers.now in
+    let drivers = map (λ (b : _). (goal.Driver-dyn g (b.vtable, b.value)).state b.value) c.args.roster.now in
     let own : k ≡ i → place_of_kind drivers (kind_of_row (get_or rows k d)) ≡ None → ⊥ = λ same none.
     let here : slice_get items i ≡ Some row = slice_get_read items (length items) i row refl c.loop-row-test.true c.row-item.is in
     let at : get_or rows k d ≡ row =
     ap (λ (n : ℕ). get_or rows n d) same ∙ ap (λ (l : List Row). get_or l i d) (sym c.list-row-items.ensures) ∙ get_or_from_slice_get items i row d here in
-    let place : c.place_of.result ≡ None = c.place_of.ensures ∙ ap (place_of_kind drivers) (c.kind_of.ensures ∙ ap kind_of_row (sym at)) ∙ none in
-    let some : is_some c.place_of.result ≡ true = c.if-is_none.ensures in
-    not_none c.place_of.result place some in
+    let place : c.find_kind.result ≡ None = c.find_kind.ensures ∙ ap (place_of_kind drivers) (c.kind_of.ensures ∙ ap kind_of_row (sym at)) ∙ none in
+    let some : is_some c.find_kind.result ≡ true = c.if-is_none.ensures in
+    not_none c.find_kind.result place some in
     let most : k ≤ i = omega (arith, low) in
     elim (eq-or-lt_of_le most) [
       | inl same ↦ own same

@@ -43,7 +43,7 @@ opened_by-returns t c =
 pub node_of-returns-in_err-terms : goal.node_of-returns-in_err-terms
 node_of-returns-in_err-terms t c =
     let p = err_from_is_err_and c.from_residual-in_err-terms.result c.from_residual-in_err-terms.ensures.1 in
-    let models = c.args.file.now.models.now in
+    let models = c.args.file.now.contents in
     let below = read_node (file_seen c.args.file.now) c.args.place.left in
     let opened = ids_seen c.args.place.opened.now in
     rw (p.1, p.2) (passed c.in_err-terms.field-0.0

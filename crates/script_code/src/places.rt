@@ -1,0 +1,105 @@
+ghost use Rattle.std.specs.Prelude.{◌≡◌, ℕ, ◌<◌, ◌^◌, List, [], length, IfOk, OnOk, slice_get};
+ghost use Rattle.indexmap.specs.IndexSet.{insert_key};
+ghost use Rattle.std.specs.Str.{bytes_eq};
+ghost use Rattle.script_code.specs.Sources.{place_in, slot_of};
+
+use base_texts::{Items, Name, NoMemory, copy_names};
+use indexmap::IndexSet;
+use std::alloc::Global;
+use std::marker::Model;
+
+/// What stands for each name in a code: its slot, or its number among the names of a script.
+pub trait Places {
+    /// The place of each name.
+    ghost place: { Self → List ℕ → ℕ };
+
+    /// The place of a name.
+    fn place_of(&self, name: &Name) -> u32
+        ensures { result ≡ place self.now name.now };
+}
+
+/// Names with their slots. The first pair of a name counts.
+#[derive(Drop)]
+pub struct Pairs<'a> {
+    pub slots: &'a [(Name, u32)],
+}
+
+impl Places for Pairs<'_> {
+    ghost use Rattle.script_code.specs.Sources.{slot_of as slot_among};
+
+    ghost place = { λ pairs. slot_among pairs.slots.now };
+
+    fn place_of(&self, name: &Name) -> u32 {
+        slot_at(self.slots, name)
+    }
+}
+
+/// The slot of a name: that of its first pair.
+fn slot_at(slots: &[(Name, u32)], name: &Name) -> u32
+    ensures { result ≡ slot_of slots.now name.now }
+{
+    for (n, slot) in slots {
+        if n == name {
+            return *slot;
+        }
+    }
+    0
+}
+
+/// The names of a script, each once, with their numbers. Contracts see the names, in the order in which they came.
+#[derive(Drop)]
+pub struct Numbering {
+    names: IndexSet<Name>,
+}
+
+impl Model for Numbering {
+    ghost use Rattle.std.specs.Prelude.{List, ℕ, ◌<◌, ◌^◌, length};
+
+    ghost Value = { List (List ℕ) };
+
+    ghost view = { λ it. it.names.keys };
+
+    ghost invariant = { λ it. length it.names.keys < 2 ^ 32 };
+}
+
+impl Numbering {
+    /// No names. It allocates nothing.
+    pub fn none(alloc: Global) -> Numbering
+        ensures { result ≡ [] }
+    {
+        Numbering {
+            names: IndexSet::new(alloc),
+        }
+    }
+
+    /// Adds a name, if it is not there. `NoMemory` where an allocation fails, and before there are 2^32 names.
+    pub fn add(&mut self, alloc: Global, name: &Name) -> Result<(), NoMemory>
+        ensures { OnOk result (self.new ≡ insert_key bytes_eq self.old name.now) }
+    {
+        if self.names.len() >= u32::MAX as usize {
+            return Err(NoMemory);
+        }
+        self.names.insert(name.copy(alloc)?)?;
+        Ok(())
+    }
+
+    /// Equal names, by their numbers. `NoMemory` where an allocation fails.
+    pub fn names(&self, alloc: Global) -> Result<Items<Name>, NoMemory>
+        ensures { IfOk result (λ names. names ≡ self.now) }
+    {
+        copy_names(alloc, self.names.as_slice())
+    }
+}
+
+impl Places for Numbering {
+    ghost use Rattle.script_code.specs.Sources.{place_in as place_among};
+
+    ghost place = { λ names. place_among names };
+
+    fn place_of(&self, name: &Name) -> u32 {
+        match self.names.get_index_of(name) {
+            Some(place) => place as u32,
+            None => 0,
+        }
+    }
+}
