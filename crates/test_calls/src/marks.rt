@@ -126,6 +126,8 @@ impl<K: Sink> Sink for MarkedSink<K> {
 
     ghost faults = { λ s. K.faults s.sink };
 
+    ghost write_gives = { λ old piece answer new. K.write_gives old.sink piece answer new.sink };
+
     fn write(&mut self, piece: &[u8]) -> Result<(), SinkFault> {
         for header in HEADERS {
             if piece.starts_with(header) {
