@@ -1,5 +1,6 @@
 -- Writing whole lines, write by write.
-use Rattle.std.proofs.Common.{◌≡◌, inl, inr, ℕ, List, [], ◌∷◌, ◌++◌, Result, Ok, Err, refl, sym, ap, subst, ◌∙◌, append_assoc}
+use Rattle.std.proofs.Common.{◌≡◌, true, inl, inr, ℕ, List, [], ◌∷◌, ◌++◌, Result, Ok, Err, refl, sym, ap, subst, ◌∙◌, append_assoc}
+use Rattle.std.specs.Prelude.{is_err}
 use Rattle.spec_outside.specs.Writes.{AreLines, WereWritten, Writes, Writing, WroteLines, WroteSome}
 
 -- lines after something
@@ -37,13 +38,19 @@ module _ {Sink Fault : Type 0} (gives : Writing Sink Fault) where
   Writes-lines (Ok _) a b p = p
   Writes-lines (Err _) a b p = inl p
 
+  -- a call that has stopped, which has written no more
+  pub Writes-stopped : {A E : Type 0} (r : Result A E) → is_err r ≡ true → (a b : Sink) → WroteSome gives a b → Writes gives r a b
+  Writes-stopped (Ok _) failed a b p = cc
+  Writes-stopped (Err _) failed a b p = p
+
   -- one write
   pub Writes-one : (r : Result (Unit {0}) Fault) (a b : Sink) (piece : List ℕ) → AreLines piece → gives a piece r b → Writes gives r a b
   Writes-one (Ok tt) a b piece lines gave = record { pieces = piece ∷ []; written = (lines, (b, (gave, refl))) }
   Writes-one (Err why) a b piece lines gave =
       inr (record { between = a; wrote = Wrote-none a; piece = piece; lines = lines; fault = why; gave = gave })
 
-  Wrote-then : (a b c : Sink) → WroteLines gives a b → WroteSome gives b c → WroteSome gives a c
+  -- some lines, and then others of which the last write may have failed
+  pub Wrote-then : (a b c : Sink) → WroteLines gives a b → WroteSome gives b c → WroteSome gives a c
   Wrote-then a b c p (inl q) = inl (Wrote-both a b c p q)
   Wrote-then a b c p (inr q) =
       inr (record { between = q.between; wrote = Wrote-both a b q.between p q.wrote; piece = q.piece; lines = q.lines; fault = q.fault; gave = q.gave })
@@ -54,4 +61,4 @@ module _ {Sink Fault : Type 0} (gives : Writing Sink Fault) where
   Writes-after (Err _) a b c p q = Wrote-then a b c p q
 
 -- the facts by which lines are written call by call
-pub ruleset writing = (Wrote-none, Wrote-both, Writes-none, Writes-lines, Writes-after)
+pub ruleset writing = (Wrote-none, Wrote-both, Wrote-then, Writes-none, Writes-lines, Writes-stopped, Writes-after)
