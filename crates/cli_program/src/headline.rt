@@ -1,6 +1,6 @@
 ghost use Rattle.std.specs.Prelude.{◌≡◌, ◌≤◌, ◌⊎◌, map};
 ghost use Rattle.spec_program.specs.Answered.{ReadFailed, WordsAnswered};
-ghost use Rattle.spec_program.specs.Answers.{DriversWithin, Gave, side};
+ghost use Rattle.spec_program.specs.Answers.{DriversWithin, Gave, WritesAt, side};
 ghost use Rattle.spec_program.specs.Reads.{WordsUnread};
 ghost use Rattle.spec_run.specs.Rosters.{IsSameRoster};
 ghost use Rattle.spec_program.specs.Headline.{EachOutput, IsGiven, ReachesIfPlan, WholeOutput};
@@ -82,6 +82,10 @@ pub fn bt<S: Shelf, K: Sink, C: Clock>(
     // the same kinds and marks in the same places, and no total has fallen.
     ensures none { NothingHeld (map (λ b. state b) roster.new.items) }
     ensures roster { IsSameRoster (map (λ b. state b) roster.old.items) (map (λ b. state b) roster.new.items) }
+
+    // Whatever is answered, each write was of whole lines, none was empty, and none has failed but the last one, and that
+    // at Write and Memory alone: no line is in two writes, and nothing is written after a write that failed.
+    ensures writes { WritesAt K.write_gives result out.old out.new }
 
     // No count of failures has fallen.
     ensures counts { (S.faults shelf.old ≤ S.faults shelf.new) × (K.faults out.old ≤ K.faults out.new) }
