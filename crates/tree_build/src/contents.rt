@@ -8,7 +8,7 @@ use crate::head::head_of;
 use crate::trees::{Trees, tree_of};
 use base_tables::{MOST_DEPTH, MOST_NODES};
 use base_texts::{Boxed, Name, NoMemory, Stop};
-use indexmap::IndexMap;
+use indexmap::{IndexMap, IndexSet};
 use spec_tree::Kind;
 use spec_tree_file::{BuildFault, Content, Element, Form, Head, Version};
 use std::alloc::Global;
@@ -81,13 +81,15 @@ fn shared(alloc: Global, content: &Content) -> Result<Boxed<Content>, NoMemory>
     Boxed::of(alloc, content)
 }
 
-/// What the attributes of nodes say. Of each element of a tree that is opened it is kept, by the place of its mark, for
-/// all openings of the tree. Contracts see the models by which it is said, since what is said is the same with it and
+/// What the attributes of nodes say. Of each element of a tree that is opened again it is kept, by the place of its
+/// mark, for all openings of the tree. Contracts see the models by which it is said, since what is said is the same with it and
 /// without it.
 #[derive(Drop)]
 pub struct Contents<'a> {
     source: Source<'a>,
     known: IndexMap<u32, Known<'a>>,
+    /// The places of the trees that are opened.
+    opened: IndexSet<u32>,
     /// How many elements more are looked at. A tree has no more nodes, and the looks go through the elements as the
     /// reader does, so that what is not kept is not read.
     left: u32,
@@ -107,7 +109,7 @@ impl<'a> Model for Contents<'a> {
 }
 
 impl<'a> Contents<'a> {
-    /// What is said in the trees that are opened below the main one, in the order in which they are read.
+    /// What is said in the trees that are opened again, in the order in which they are read.
     pub fn below(
         source: Source<'a>,
         trees: &Trees<'a>,
@@ -119,11 +121,12 @@ impl<'a> Contents<'a> {
         let mut contents = Contents {
             source,
             known: IndexMap::new(source.alloc),
+            opened: IndexSet::new(source.alloc),
             left: MOST_NODES,
         };
         if trees.len() > 1 {
             if let Some(tree) = tree_of(trees, main) {
-                contents.keep_all(trees, version, MOST_DEPTH, tree.children.list(), true)?;
+                contents.keep_all(trees, version, MOST_DEPTH, tree.children.list(), false)?;
             }
         }
         Ok(contents)
@@ -138,12 +141,12 @@ impl<'a> Contents<'a> {
         version: Version,
         levels: u32,
         elements: &'a [Element],
-        is_main: bool,
+        is_kept: bool,
     ) -> Result<(), NoMemory>
         ensures { self.new ≡ self.old }
     {
         for element in elements {
-            self.keep_with(trees, version, levels, element, is_main)?;
+            self.keep_with(trees, version, levels, element, is_kept)?;
         }
         Ok(())
     }
@@ -156,7 +159,7 @@ impl<'a> Contents<'a> {
         version: Version,
         levels: u32,
         element: &'a Element,
-        is_main: bool,
+        is_kept: bool,
     ) -> Result<(), NoMemory>
         ensures { self.new ≡ self.old }
     {
@@ -168,14 +171,17 @@ impl<'a> Contents<'a> {
             self.left = 0;
             return Ok(());
         };
-        let (elements, is_main_below) = match tree_below(trees, &head) {
-            Some(tree) => (tree.children.list(), false),
-            None => (element.children.list(), is_main),
+        let (elements, are_kept) = match tree_below(trees, &head) {
+            Some(tree) => {
+                let is_first = self.opened.insert(tree.place)?;
+                (tree.children.list(), is_kept || !is_first)
+            }
+            None => (element.children.list(), is_kept),
         };
-        if !is_main {
+        if is_kept {
             self.keep(head, element)?;
         }
-        self.keep_all(trees, version, levels - 1, elements, is_main_below)
+        self.keep_all(trees, version, levels - 1, elements, are_kept)
     }
 
     /// Keeps what is said of an element that is a node of this head. Where that is a fault, no more is read.
