@@ -30,7 +30,7 @@ def stub(text):
             if not clauses and l.rstrip().endswith(" {}") : start = -2; break
             if re.match(r"^\s*(ensures|requires|ghost)\b", l) and j > i: clauses = True
             if not clauses and l.rstrip().endswith("{") and (j == i or l.startswith(ind) and not l.startswith(ind + " ")): start = -3; break
-            if l.rstrip().endswith(";") and (j == i or True):
+            if l.rstrip().endswith(";") and not l.lstrip().startswith("//"):
                 start = None; break
             j += 1
             if j >= len(lines): raise Exception("no body: " + line)
