@@ -4,10 +4,10 @@
 
 mod boxes;
 mod headline;
+mod host_plans;
 pub mod laws;
-mod plan_over;
 mod roster;
 
 pub use headline::bt;
-pub use plan_over::plan_over;
+pub use host_plans::plan_over;
 pub use roster::add_driver;
