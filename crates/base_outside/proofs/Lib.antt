@@ -1,3 +1,4 @@
 pub mod Appends
 mod InputLines
 pub mod Rises
+pub mod Writings

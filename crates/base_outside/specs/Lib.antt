@@ -6,3 +6,4 @@ pub mod MemShelf
 pub mod MemSink
 pub mod OutSink
 pub mod Reads
+pub mod Writes

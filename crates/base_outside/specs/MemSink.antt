@@ -1,6 +1,8 @@
 -- A sink in memory of which some calls are to fail.
-use Rattle.std.specs.Prelude.{ℕ, List, [], ◌∷◌, ◌++◌, Option, Some, None, take, nat_eq, if◌then◌else◌}
+use Rattle.std.specs.Prelude.{ℕ, ◌≡◌, List, [], ◌∷◌, ◌++◌, Option, Some, None, IsNone, IsSome, Result, Ok, Err, take, nat_eq, if◌then◌else◌}
 use Rattle.base_outside.specs.Counts.{next}
+use Rattle.base_outside.specs.declared.sink.SinkFault.{SinkFault}
+use Rattle.base_outside.specs.declared.sink.SinkFault.TheVariants as fault
 
 -- what was written, the numbers of the calls that are to fail with the bytes that each still takes, and the counts so far
 pub record SinkState : Type 0 where
@@ -26,3 +28,9 @@ after_call s piece (Some bytes) = record s { written = s.written ++ take bytes p
 -- the sink after one more call, which took the whole piece or was to fail
 abbrev pub after_write : SinkState → List ℕ → SinkState
 after_write s piece = after_call s piece (takes_now s)
+
+-- a write of a piece gives this answer: it is done or fails as the call is to, or there is no memory, and then it was only counted
+abbrev pub Gives : SinkState → List ℕ → Result (Unit {0}) SinkFault → SinkState → Type 0
+Gives old piece (Ok done) new = IsNone (takes_now old) × (new ≡ after_write old piece)
+Gives old piece (Err fault.Failed) new = IsSome (takes_now old) × (new ≡ after_write old piece)
+Gives old piece (Err fault.NoMemory) new = new ≡ record old { calls = next old.calls }

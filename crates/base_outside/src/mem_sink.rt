@@ -63,12 +63,16 @@ fn takes(fails: &[(u64, u64)], call: u64) -> Option<u64>
 
 impl Sink for MemSink {
     ghost use Rattle.std.specs.Prelude.{Some};
+    ghost use Rattle.base_outside.specs.MemSink.{Gives};
+    ghost use Rattle.std.proofs.Common.{rules};
 
     ghost written = { λ s. Some s.written };
 
     ghost handed = { λ s. Some s.written };
 
     ghost faults = { λ s. s.faults };
+
+    ghost write_gives = { Gives };
 
     fn write(&mut self, piece: &[u8]) -> Result<(), SinkFault>
         ensures whole { OnOk result (Appended (Some self.old.written) (Some self.new.written) piece.now) }
@@ -100,4 +104,8 @@ impl Sink for MemSink {
     {
         Ok(())
     }
+
+    ghost piece_appends = { Prim.search rules };
+
+    ghost failure_counts = { Prim.search rules };
 }

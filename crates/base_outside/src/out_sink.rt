@@ -124,13 +124,16 @@ impl<W: Write + Drop> OutSink<W> {
 }
 
 impl<W: Write + Drop> Sink for OutSink<W> {
-    ghost use Rattle.base_outside.specs.OutSink.{written_so_far as written_by};
+    ghost use Rattle.std.proofs.Common.{rules};
+    ghost use Rattle.base_outside.specs.OutSink.{Gives, written_so_far as written_by};
 
     ghost written = { written_by };
 
     ghost handed = { λ s. s.told };
 
     ghost faults = { λ s. s.faults };
+
+    ghost write_gives = { Gives };
 
     /// Writes the piece. Most pieces have room beside what is gathered, and are taken at once.
     #[inline]
@@ -172,4 +175,8 @@ impl<W: Write + Drop> Sink for OutSink<W> {
             Err(_) => self.fail(),
         }
     }
+
+    ghost piece_appends = { λ old new piece gives. gives.0 };
+
+    ghost failure_counts = { Prim.search rules };
 }

@@ -39,12 +39,17 @@ impl SureSink {
 
 impl Sink for SureSink {
     ghost use Rattle.std.specs.Prelude.{Some};
+    ghost use Rattle.std.proofs.Common.{ap, rules};
+    ghost use Rattle.base_outside.specs.declared.sink.SinkFault.TheVariants as fault;
 
     ghost written = { λ bytes. Some bytes };
 
     ghost handed = { λ bytes. Some bytes };
 
     ghost faults = { λ _. 0 };
+
+    ghost write_gives = { λ old piece answer new. OnOk answer (new ≡ old ++ piece)
+        × (¬ IsErrOf answer fault.Failed × (IsErrOf answer fault.NoMemory → new ≡ old)) };
 
     fn write(&mut self, piece: &[u8]) -> Result<(), SinkFault>
         ensures whole { OnOk result (self.new ≡ self.old ++ piece.now) }
@@ -64,4 +69,8 @@ impl Sink for SureSink {
     {
         Ok(())
     }
+
+    ghost piece_appends = { λ old new piece gives. ap Some gives.0 };
+
+    ghost failure_counts = { Prim.search rules };
 }

@@ -3,3 +3,4 @@ pub mod Counts
 pub mod Files
 pub mod Lines
 pub mod Moments
+pub mod Writes

@@ -126,6 +126,12 @@ impl<K: Sink> Sink for MarkedSink<K> {
 
     ghost faults = { λ s. K.faults s.sink };
 
+    ghost write_gives = { λ old piece answer new. K.write_gives old.sink piece answer new.sink };
+
+    ghost piece_appends = { λ old new. K.piece_appends old.sink new.sink };
+
+    ghost failure_counts = { λ old new. K.failure_counts old.sink new.sink };
+
     fn write(&mut self, piece: &[u8]) -> Result<(), SinkFault> {
         for header in HEADERS {
             if piece.starts_with(header) {
