@@ -5,6 +5,7 @@ ghost use Rattle.spec_output.specs.Lines.{change_lines, entry_line, fact_line, h
 ghost use Rattle.text_lines.specs.Notes.{is_long};
 ghost use Rattle.spec_outside.specs.Appending.{Appended, AppendedPrefix};
 ghost use Rattle.spec_outside.specs.Counts.{Rose};
+ghost use Rattle.spec_outside.specs.Writes.{AreLines, Writes};
 
 use crate::label::Labels;
 use crate::line::{put_entry, put_fact, put_header, put_long, put_short};
@@ -22,7 +23,7 @@ use std::alloc::Global;
 /// the entries that changed. After a stop a prefix of their bytes was written.
 /// `TextStop::WriteFault` comes only where the sink's count of failures rose in this call, and
 /// `TextStop::NoMemory` for want of memory (out of memory).
-#[tactic(auto, using(base_outside::proofs::Appends::appending))]
+#[tactic(auto, using(base_outside::proofs::Appends::appending, base_outside::proofs::Writings::writing))]
 pub fn write_block<K: Sink>(
     alloc: Global,
     out: &mut K,
@@ -34,6 +35,7 @@ pub fn write_block<K: Sink>(
     ensures prefix { AppendedPrefix (K.written out.old) (K.written out.new) (concat (lines_of names.now (seen block.now))) }
     ensures failed { IsErrOf result TextStop.WriteFault → Rose (K.faults out.old) (K.faults out.new) }
     ensures count { K.faults out.old ≤ K.faults out.new }
+    ensures writes { Writes K.write_gives result out.old out.new }
 {
     let mut line = empty_line(alloc)?;
     write_header(&mut line, out, block.header, names)?;
@@ -52,6 +54,7 @@ pub fn write_header<K: Sink>(
     ensures prefix { AppendedPrefix (K.written out.old) (K.written out.new) (header_line names.now header) }
     ensures failed { IsErrOf result TextStop.WriteFault → Rose (K.faults out.old) (K.faults out.new) }
     ensures count { K.faults out.old ≤ K.faults out.new }
+    ensures writes { Writes K.write_gives result out.old out.new }
 {
     line.clear();
     put_header(line, header, names)?;
@@ -60,7 +63,7 @@ pub fn write_header<K: Sink>(
 
 /// Writes the lines of the facts and the entries that changed. All use the room of `line`. After a stop a prefix of the
 /// bytes was written.
-#[tactic(auto, using(base_outside::proofs::Appends::appending))]
+#[tactic(auto, using(base_outside::proofs::Appends::appending, base_outside::proofs::Writings::writing))]
 pub fn write_changes<K: Sink>(
     line: &mut Vec<u8>,
     out: &mut K,
@@ -72,12 +75,13 @@ pub fn write_changes<K: Sink>(
     ensures prefix { AppendedPrefix (K.written out.old) (K.written out.new) (concat (change_lines names.now (seen block.now))) }
     ensures failed { IsErrOf result TextStop.WriteFault → Rose (K.faults out.old) (K.faults out.new) }
     ensures count { K.faults out.old ≤ K.faults out.new }
+    ensures writes { Writes K.write_gives result out.old out.new }
 {
     write_facts(line, out, block.facts.as_slice(), names)?;
     write_entries(line, out, block.entries.as_slice(), names)
 }
 
-/// Writes the line by one write. After a stop a prefix of it was written. `TextStop::WriteFault`
+/// Writes the line, or whole lines, by one write. After a stop a prefix of it was written. `TextStop::WriteFault`
 /// comes only where the sink's count of failures rose in this call.
 #[inline(always)]
 pub fn write_line<K: Sink>(out: &mut K, line: &[u8]) -> Result<(), TextStop>
@@ -85,6 +89,7 @@ pub fn write_line<K: Sink>(out: &mut K, line: &[u8]) -> Result<(), TextStop>
     ensures prefix { AppendedPrefix (K.written out.old) (K.written out.new) line.now }
     ensures failed { IsErrOf result TextStop.WriteFault → Rose (K.faults out.old) (K.faults out.new) }
     ensures count { K.faults out.old ≤ K.faults out.new }
+    ensures writes { AreLines line.now → Writes K.write_gives result out.old out.new }
 {
     out.write(line)?;
     Ok(())
@@ -92,7 +97,7 @@ pub fn write_line<K: Sink>(out: &mut K, line: &[u8]) -> Result<(), TextStop>
 
 /// Writes the lines of the notes. The long ones all use the room of `line`. After a stop a prefix
 /// of the bytes was written.
-#[tactic(auto, using(base_outside::proofs::Appends::appending))]
+#[tactic(auto, using(base_outside::proofs::Appends::appending, base_outside::proofs::Writings::writing))]
 pub fn write_notes<K: Sink>(
     line: &mut Vec<u8>,
     out: &mut K,
@@ -104,6 +109,7 @@ pub fn write_notes<K: Sink>(
     ensures prefix { AppendedPrefix (K.written out.old) (K.written out.new) (concat (map (note_line names.now) notes.now)) }
     ensures failed { IsErrOf result TextStop.WriteFault → Rose (K.faults out.old) (K.faults out.new) }
     ensures count { K.faults out.old ≤ K.faults out.new }
+    ensures writes { Writes K.write_gives result out.old out.new }
 {
     let mut short = ShortLine::new();
     let labels = names.labels();
@@ -114,7 +120,7 @@ pub fn write_notes<K: Sink>(
 }
 
 /// Writes the line of the note. After a stop a prefix of it was written.
-#[tactic(auto, using(base_outside::proofs::Appends::appending))]
+#[tactic(auto, using(base_outside::proofs::Appends::appending, base_outside::proofs::Writings::writing))]
 #[inline(always)]
 fn write_note<K: Sink>(
     short: &mut ShortLine,
@@ -128,6 +134,7 @@ fn write_note<K: Sink>(
     ensures prefix { AppendedPrefix (K.written out.old) (K.written out.new) (note_line names.now note.now) }
     ensures failed { IsErrOf result TextStop.WriteFault → Rose (K.faults out.old) (K.faults out.new) }
     ensures count { K.faults out.old ≤ K.faults out.new }
+    ensures writes { Writes K.write_gives result out.old out.new }
 {
     if put_short(short, note, labels) {
         return write_line(out, short.list());
@@ -137,7 +144,7 @@ fn write_note<K: Sink>(
 
 /// Writes the line of a note that is long, as that of a fault. It is a function of its own, since
 /// few blocks have such a note.
-#[tactic(auto, using(base_outside::proofs::Appends::appending))]
+#[tactic(auto, using(base_outside::proofs::Appends::appending, base_outside::proofs::Writings::writing))]
 #[cold]
 #[inline(never)]
 fn write_long<K: Sink>(
@@ -151,6 +158,7 @@ fn write_long<K: Sink>(
     ensures prefix { AppendedPrefix (K.written out.old) (K.written out.new) (note_line names.now note.now) }
     ensures failed { IsErrOf result TextStop.WriteFault → Rose (K.faults out.old) (K.faults out.new) }
     ensures count { K.faults out.old ≤ K.faults out.new }
+    ensures writes { Writes K.write_gives result out.old out.new }
 {
     line.clear();
     put_long(line, *note, names)?;
@@ -159,7 +167,7 @@ fn write_long<K: Sink>(
 
 /// Writes the lines of the facts that changed. All use the room of `line`. After a stop a prefix of
 /// the bytes was written.
-#[tactic(auto, using(base_outside::proofs::Appends::appending))]
+#[tactic(auto, using(base_outside::proofs::Appends::appending, base_outside::proofs::Writings::writing))]
 fn write_facts<K: Sink>(
     line: &mut Vec<u8>,
     out: &mut K,
@@ -171,6 +179,7 @@ fn write_facts<K: Sink>(
     ensures prefix { AppendedPrefix (K.written out.old) (K.written out.new) (concat (map (fact_line names.now) facts.now)) }
     ensures failed { IsErrOf result TextStop.WriteFault → Rose (K.faults out.old) (K.faults out.new) }
     ensures count { K.faults out.old ≤ K.faults out.new }
+    ensures writes { Writes K.write_gives result out.old out.new }
 {
     for fact in facts {
         line.clear();
@@ -182,7 +191,7 @@ fn write_facts<K: Sink>(
 
 /// Writes the lines of the entries that changed. All use the room of `line`. After a stop a prefix
 /// of the bytes was written.
-#[tactic(auto, using(base_outside::proofs::Appends::appending))]
+#[tactic(auto, using(base_outside::proofs::Appends::appending, base_outside::proofs::Writings::writing))]
 fn write_entries<K: Sink>(
     line: &mut Vec<u8>,
     out: &mut K,
@@ -194,6 +203,7 @@ fn write_entries<K: Sink>(
     ensures prefix { AppendedPrefix (K.written out.old) (K.written out.new) (concat (map (entry_line names.now) entries.now)) }
     ensures failed { IsErrOf result TextStop.WriteFault → Rose (K.faults out.old) (K.faults out.new) }
     ensures count { K.faults out.old ≤ K.faults out.new }
+    ensures writes { Writes K.write_gives result out.old out.new }
 {
     for entry in entries {
         line.clear();

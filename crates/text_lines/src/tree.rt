@@ -5,6 +5,7 @@ ghost use Rattle.spec_tree.specs.PrintedTree.{opened_by, printed, tree_element, 
 ghost use Rattle.spec_tree.specs.declared.term.Term.{out-Term};
 ghost use Rattle.spec_outside.specs.Appending.{Appended, AppendedPrefix};
 ghost use Rattle.spec_outside.specs.Counts.{Rose};
+ghost use Rattle.spec_outside.specs.Writes.{Writes};
 ghost use Rattle.text_lines.specs.Trees.{end_mark, node_mark, start_mark, written};
 
 use crate::block::write_line;
@@ -108,6 +109,7 @@ fn write_node_line<K: Sink>(
     ensures prefix { AppendedPrefix (K.written out.old) (K.written out.new) (node_mark blanks.now term.now ending.now) }
     ensures failed { IsErrOf result TextStop.WriteFault → Rose (K.faults out.old) (K.faults out.new) }
     ensures count { K.faults out.old ≤ K.faults out.new }
+    ensures writes { Writes K.write_gives result out.old out.new }
 {
     line.clear();
     put_node_line(line, blanks, term, ending)?;
@@ -130,6 +132,7 @@ fn write_mark<K: Sink>(
         (start_mark blanks.now name.now (map (λ a. (a.0.now, a.1.now)) attributes.now) ending.now) }
     ensures failed { IsErrOf result TextStop.WriteFault → Rose (K.faults out.old) (K.faults out.new) }
     ensures count { K.faults out.old ≤ K.faults out.new }
+    ensures writes { Writes K.write_gives result out.old out.new }
 {
     let line = mark_line(alloc, blanks, name, attributes, ending)?;
     write_line(out, line.as_slice())
@@ -146,6 +149,7 @@ fn write_end<K: Sink>(
     ensures prefix { AppendedPrefix (K.written out.old) (K.written out.new) (end_mark blanks.now name.now) }
     ensures failed { IsErrOf result TextStop.WriteFault → Rose (K.faults out.old) (K.faults out.new) }
     ensures count { K.faults out.old ≤ K.faults out.new }
+    ensures writes { Writes K.write_gives result out.old out.new }
 {
     let line = end_line(alloc, blanks, name)?;
     write_line(out, line.as_slice())
@@ -153,7 +157,7 @@ fn write_end<K: Sink>(
 
 /// Writes the lines of a node and of all below it. Those of start marks and empty marks use the room of `line`. After a
 /// stop a prefix of the bytes was written.
-#[tactic(auto, using(base_outside::proofs::Appends::appending))]
+#[tactic(auto, using(base_outside::proofs::Appends::appending, base_outside::proofs::Writings::writing))]
 fn write_node<K: Sink>(
     alloc: Global,
     line: &mut Vec<u8>,
@@ -166,6 +170,7 @@ fn write_node<K: Sink>(
     ensures prefix { AppendedPrefix (K.written out.old) (K.written out.new) (concat ((printed term.now).lines blanks.now)) }
     ensures failed { IsErrOf result TextStop.WriteFault → Rose (K.faults out.old) (K.faults out.new) }
     ensures count { K.faults out.old ≤ K.faults out.new }
+    ensures writes { Writes K.write_gives result out.old out.new }
 {
     let nodes = nodes_below(term);
     if nodes.is_empty() {
@@ -183,7 +188,7 @@ fn write_node<K: Sink>(
 
 /// Writes the lines of a tree in its element, one level deep. After a stop a prefix of the bytes
 /// was written.
-#[tactic(auto, using(base_outside::proofs::Appends::appending))]
+#[tactic(auto, using(base_outside::proofs::Appends::appending, base_outside::proofs::Writings::writing))]
 fn write_written<K: Sink>(
     alloc: Global,
     line: &mut Vec<u8>,
@@ -197,6 +202,7 @@ fn write_written<K: Sink>(
         (concat (tree_element (id.now, map (λ node. (printed node).lines) nodes.now) (codes "  "))) }
     ensures failed { IsErrOf result TextStop.WriteFault → Rose (K.faults out.old) (K.faults out.new) }
     ensures count { K.faults out.old ≤ K.faults out.new }
+    ensures writes { Writes K.write_gives result out.old out.new }
 {
     let attributes: [(&[u8], &[u8]); 1] = [(b"ID", id.list())];
     if nodes.is_empty() {
@@ -214,12 +220,13 @@ fn write_written<K: Sink>(
 /// Writes the tree as a tree file, each line by one write. After a stop a prefix of the bytes was
 /// written. `TextStop::WriteFault` comes only where the sink's count of failures rose in this call,
 /// and `TextStop::NoMemory` for want of memory.
-#[tactic(auto, using(base_outside::proofs::Appends::appending))]
+#[tactic(auto, using(base_outside::proofs::Appends::appending, base_outside::proofs::Writings::writing))]
 pub fn write_tree<K: Sink>(alloc: Global, out: &mut K, tree: &Tree) -> Result<(), TextStop>
     ensures whole { OnOk result (Appended (K.written out.old) (K.written out.new) (concat (tree_lines tree.now))) }
     ensures prefix { AppendedPrefix (K.written out.old) (K.written out.new) (concat (tree_lines tree.now)) }
     ensures failed { IsErrOf result TextStop.WriteFault → Rose (K.faults out.old) (K.faults out.new) }
     ensures count { K.faults out.old ≤ K.faults out.new }
+    ensures writes { Writes K.write_gives result out.old out.new }
 {
     let trees = trees_of(alloc, tree)?;
     let mut line = empty_line(alloc)?;

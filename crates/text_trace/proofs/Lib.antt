@@ -6,6 +6,7 @@ pub mod Lives
 pub mod Notes
 pub mod Parts
 pub mod Rests
+pub mod ShownBlocks
 pub mod Steps
 pub mod Unbegun
 pub mod Watching

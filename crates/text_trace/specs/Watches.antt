@@ -1,5 +1,5 @@
 -- What a watcher makes of the blocks that it is shown.
-use Rattle.std.specs.Prelude.{ℕ, ◌≡◌, ◌≤◌, List, ◌++◌, Option, Some, None, Result, IsErrOf}
+use Rattle.std.specs.Prelude.{ℕ, ◌≡◌, ◌≤◌, List, ◌++◌, Option, Some, None, Result, Ok, Err, IsErrOf}
 use Rattle.std.specs.List.{flat_map}
 use Rattle.spec_run.specs.declared.block.Block.{Block}
 use Rattle.spec_run.specs.declared.note.Note.{Note}
@@ -44,3 +44,8 @@ pub record StaysWatcher {A : Type 0} (result : Result A TextStop) (old new : Wat
   pub lent : new.lent ≡ old.lent
   pub failed : IsErrOf result text_stop.WriteFault → Rose old.faults new.faults
   pub count : old.faults ≤ new.faults
+
+-- what a watcher does when it is shown blocks, with this result, leads from one of its states to another
+abbrev pub Shown : {Watch A : Type 0} → (Watch → Result (Unit {0}) TextStop → Watch → Type 0) → Result A TextStop → Watch → Watch → Type 0
+Shown shows (Ok _) old new = shows old (Ok tt) new
+Shown shows (Err why) old new = shows old (Err why) new

@@ -30,8 +30,16 @@ impl Counter {
 impl Watch for Counter {
     ghost state = { λ w. record { text = λ block. []; written = None; faults = 0; counts = Some w.counts; expecting = None; lent = 0 } };
 
+    ghost shows = { λ _ _ _. Unit {0} };
+
     fn show(&mut self, _: Global, block: &Block) -> Result<(), TextStop> {
         count_notes(&mut self.counts, block.notes.list());
         Ok(())
     }
+
+    ghost shows_none = { λ _. tt };
+
+    ghost shows_both = { λ _ _ _ _ _ _. tt };
+
+    ghost shows_stop = { λ _ _ _ _. tt };
 }

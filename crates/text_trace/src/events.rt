@@ -5,6 +5,7 @@ ghost use Rattle.run_loop.specs.Steps.{CanCome};
 ghost use Rattle.text_trace.specs.Going.{CanGoOn, Makes, stage, state_at};
 ghost use Rattle.spec_output.specs.Rounds.{events_then};
 ghost use Rattle.text_trace.specs.Traces.{CanAllCome, last_moment};
+ghost use Rattle.text_trace.specs.Watches.{Shown};
 
 use crate::ended::Ended;
 use crate::showing::show_event;
@@ -31,6 +32,7 @@ fn make_event<D: Drivers, W: Watch>(
         let new = stage (D.states drivers.new) (W.state watch.new) underway.new in
         Makes of result old new (λ rest. then_rest (step of.tree of.world next.now (state_at of old)) rest) }
     ensures last { result ≡ Ok Ended.Done → underway.new.runs.last ≡ next.now.at }
+    ensures shows { Shown W.shows result watch.old watch.new }
 {
     let made = run_listed(
         alloc,
@@ -57,6 +59,7 @@ pub fn follow<D: Drivers, W: Watch>(
         let new = stage (D.states drivers.new) (W.state watch.new) underway.new in
         Makes of result old new (λ rest. events_then of.tree of.world events.now rest (state_at of old)) }
     ensures last { result ≡ Ok Ended.Done → underway.new.runs.last ≡ last_moment underway.old.runs.last events.now }
+    ensures shows { Shown W.shows result watch.old watch.new }
 {
     for next in events {
         if let Ended::Faulted = make_event(alloc, underway, next, drivers, watch)? {

@@ -7,6 +7,7 @@ ghost use Rattle.run_loop.specs.Steps.{HaveRoom};
 ghost use Rattle.text_trace.specs.Halted.{HaveHalted};
 ghost use Rattle.text_trace.specs.Going.{AreAtRest, CanGoOn, Makes, Stand, finishes_then, stage, state_at};
 ghost use Rattle.text_trace.specs.Traces.{AreKept};
+ghost use Rattle.text_trace.specs.Watches.{Shown};
 
 use crate::ended::Ended;
 use crate::showing::show_event;
@@ -35,6 +36,7 @@ fn finish_one<D: Drivers, W: Watch>(
     ensures rests { let old = stage (D.states drivers.old) (W.state watch.old) underway.old in
         let new = stage (D.states drivers.new) (W.state watch.new) underway.new in
         result ≡ Ok Ended.Done → AreAtRest (runner - 1) (state_at of old) → AreAtRest runner (state_at of new) }
+    ensures shows { Shown W.shows result watch.old watch.new }
 {
     let made = run_finish(
         alloc,
@@ -59,6 +61,7 @@ pub fn finish_all<D: Drivers, W: Watch>(
         let new = stage (D.states drivers.new) (W.state watch.new) underway.new in
         Makes of result old new (λ rest. finishes_then of.tree of.world 1 of.world.runners rest (state_at of old)) }
     ensures none { OnOk result (NothingHeld (D.states drivers.new)) }
+    ensures shows { Shown W.shows result watch.old watch.new }
 {
     for place in 0..underway.runs.runners.len() as u8 {
         if let Ended::Faulted = finish_one(alloc, underway, place + 1, drivers, watch)? {

@@ -6,7 +6,7 @@ ghost use Rattle.text_trace.specs.Going.{CanGoOn, LiveMade, RoundsMade, stage};
 ghost use Rattle.text_trace.specs.RoundMoments.{AreMoments, WasAsked};
 ghost use Rattle.spec_output.specs.Rounds.{live_events, round_of};
 ghost use Rattle.text_trace.specs.Traces.{AreKept, CanRun, Leaves, side, state_in, trace_of};
-ghost use Rattle.text_trace.specs.Watches.{StaysWatcher};
+ghost use Rattle.text_trace.specs.Watches.{Shown, StaysWatcher};
 
 use crate::ended::Ended;
 use crate::events::follow;
@@ -47,9 +47,10 @@ fn follow_clock<D: Drivers, C: Clock, W: Watch>(
 ) -> Result<Ended, TextStop>
     ghost of: { Setup }
     requires { CanGoOn of (D.states drivers.old) underway.old }
-    ensures { let old = stage (D.states drivers.old) (W.state watch.old) underway.old in
+    ensures made { let old = stage (D.states drivers.old) (W.state watch.old) underway.old in
         let new = stage (D.states drivers.new) (W.state watch.new) underway.new in
         RoundsMade of result rounds old new (C.moments clock.old) (C.moments clock.new) }
+    ensures shows { Shown W.shows result watch.old watch.new }
 {
     let mut round = Vec::new(alloc);
     let runners = underway.runs.runners.len() as u8;
@@ -82,6 +83,7 @@ fn run_live<D: Drivers, C: Clock, W: Watch>(
         let new = stage (D.states drivers.new) (W.state watch.new) underway.new in
         LiveMade of result rounds old new (C.moments clock.old) (C.moments clock.new) }
     ensures none { OnOk result (NothingHeld (D.states drivers.new)) }
+    ensures shows { Shown W.shows result watch.old watch.new }
 {
     match follow_clock(alloc, underway, rounds, clock, drivers, watch)? {
         Ended::Done => finish_all(alloc, underway, drivers, watch),
@@ -113,6 +115,7 @@ pub fn run_rounds<D: Drivers, C: Clock, W: Watch>(
         WasAsked result of.tree of.world rounds runs.last opened (C.moments clock.old) (C.moments clock.new) }
     ensures kept { AreKept (D.states drivers.old) (D.states drivers.new) }
     ensures watcher { StaysWatcher result (W.state watch.old) (W.state watch.new) }
+    ensures shows { Shown W.shows result watch.old watch.new }
 {
     let mut underway = begin(alloc, runs)?;
     match run_live(alloc, &mut underway, rounds, clock, drivers, watch) {

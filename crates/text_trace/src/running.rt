@@ -5,7 +5,7 @@ ghost use Rattle.run_loop.specs.Runs.{arenas_of};
 ghost use Rattle.text_trace.specs.Going.{CanGoOn, Makes, finishes_then, stage, state_at};
 ghost use Rattle.spec_output.specs.Rounds.{events_then};
 ghost use Rattle.text_trace.specs.Traces.{AreKept, CanAllCome, CanRun, Leaves, side, trace_of};
-ghost use Rattle.text_trace.specs.Watches.{StaysWatcher};
+ghost use Rattle.text_trace.specs.Watches.{Shown, StaysWatcher};
 
 use crate::ended::Ended;
 use crate::events::follow;
@@ -34,6 +34,7 @@ fn run_script<D: Drivers, W: Watch>(
         Makes of result old new (λ rest.
         events_then of.tree of.world events.now (finishes_then of.tree of.world 1 of.world.runners rest) (state_at of old)) }
     ensures none { OnOk result (NothingHeld (D.states drivers.new)) }
+    ensures shows { Shown W.shows result watch.old watch.new }
 {
     match follow(alloc, underway, events, drivers, watch)? {
         Ended::Done => finish_all(alloc, underway, drivers, watch),
@@ -61,6 +62,7 @@ pub fn run_events<D: Drivers, W: Watch>(
         Leaves result (arenas_of runs) old new (trace_of of old.drivers runs events.now) }
     ensures kept { AreKept (D.states drivers.old) (D.states drivers.new) }
     ensures watcher { StaysWatcher result (W.state watch.old) (W.state watch.new) }
+    ensures shows { Shown W.shows result watch.old watch.new }
 {
     let mut underway = begin(alloc, runs)?;
     match run_script(alloc, &mut underway, events, drivers, watch) {

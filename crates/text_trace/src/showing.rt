@@ -1,6 +1,6 @@
 ghost use Rattle.run_arena.specs.Blocks.{seen};
 ghost use Rattle.text_trace.specs.Going.{Shows};
-ghost use Rattle.text_trace.specs.Watches.{StaysWatcher};
+ghost use Rattle.text_trace.specs.Watches.{Shown, StaysWatcher};
 
 use crate::ended::Ended;
 use crate::watch::Watch;
@@ -19,6 +19,7 @@ pub fn show_event<W: Watch>(
 ) -> Result<Ended, TextStop>
     ensures shown { Shows made result (W.state watch.old) (W.state watch.new) (seen block.now) }
     ensures watcher { StaysWatcher result (W.state watch.old) (W.state watch.new) }
+    ensures shows { Shown W.shows result watch.old watch.new }
 {
     let ended = match made {
         Ok(()) => Ended::Done,

@@ -1,4 +1,5 @@
 pub mod Bounds
+pub mod FirstLines
 pub mod Flat
 pub mod Following
 pub mod Headers

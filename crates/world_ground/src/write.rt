@@ -2,6 +2,7 @@ ghost use Rattle.std.specs.Prelude.{◌≡◌, ◌+◌, ◌≤◌, ◌==◌, len
 ghost use Rattle.std.specs.List.{position_or_len};
 ghost use Rattle.spec_outside.specs.Appending.{Appended, AppendedPrefix};
 ghost use Rattle.spec_outside.specs.Counts.{Rose};
+ghost use Rattle.spec_outside.specs.Writes.{AreLines, Writes};
 
 use crate::ground::Ground;
 use base_outside::{Sink, SinkFault};
@@ -28,6 +29,7 @@ pub fn write_ground<K: Sink>(out: &mut K, g: &Ground) -> Result<(), SinkFault>
     ensures prefix { AppendedPrefix (K.written out.old) (K.written out.new) g.now.text }
     ensures failed { IsErrOf result SinkFault.Failed → Rose (K.faults out.old) (K.faults out.new) }
     ensures count { K.faults out.old ≤ K.faults out.new }
+    ensures writes { AreLines g.now.text → Writes K.write_gives result out.old out.new }
 {
     let mut rest = g.text();
     'lines: while !rest.is_empty() {

@@ -51,6 +51,8 @@ impl Watch for Expecter {
       lent = 0;
     } };
 
+    ghost shows = { λ _ _ _. Unit {0} };
+
     fn show(&mut self, _: Global, block: &Block) -> Result<(), TextStop> {
         self.watching.take(block)?;
         if self.fault.is_none() {
@@ -58,4 +60,10 @@ impl Watch for Expecter {
         }
         Ok(())
     }
+
+    ghost shows_none = { λ _. tt };
+
+    ghost shows_both = { λ _ _ _ _ _ _. tt };
+
+    ghost shows_stop = { λ _ _ _ _. tt };
 }

@@ -2,6 +2,7 @@ use Rattle.std.proofs.Common.{◌≤◌, map, take}
 use Rattle.std.specs.List.{concat}
 use Rattle.spec_output.specs.Lines.{note_line}
 use Rattle.spec_outside.specs.Appending.{Appended}
+use Rattle.spec_outside.specs.Writes.{WroteLines}
 use Rattle.text_lines.proofs.block.write_notes.Given as goal
 
 abbrev pub invariant-loop-note : goal.invariant-loop-note
@@ -11,4 +12,5 @@ invariant-loop-note g l =
     record {
       text : Appended (written l.fn.out) (written l.out) (concat (map (note_line l.names) (take l.note-index l.notes)));
       count : faults l.fn.out ≤ faults l.out;
+      writes : WroteLines g.K.Sink.write_gives l.fn.out l.out;
     }

@@ -4,6 +4,7 @@ use Rattle.spec_tree.specs.PrintedTree.{deeper, printed}
 use Rattle.spec_tree.specs.declared.term.Term.{Term}
 use Rattle.base_outside.proofs.Appends.{Appended-nil, AppendedPrefix-whole}
 use Rattle.text_lines.proofs.Trees.{Appended-all, Appended-item, Appended-node, Appended-node_empty, AppendedPrefix-item, AppendedPrefix-node_below, AppendedPrefix-node_empty, AppendedPrefix-node_end, AppendedPrefix-node_start, length_empty, length_filled}
+use Rattle.base_outside.proofs.Writings.{Writes-after, Writes-none, Writes-stopped, Wrote-both}
 use Rattle.text_lines.proofs.tree.+write_node.Goals as goal
 
 pub returns-then-is_empty-clause-whole : goal.returns-then-is_empty-clause-whole
@@ -28,7 +29,7 @@ returns-in_err-write_node_line-2-clause-prefix g t c =
     AppendedPrefix-node_start c.args.term.now nodes c.args.blanks.now _ _ c.nodes_below-nodes.ensures some c.in_err-write_node_line-2.ensures.prefix
 
 pub loop-node-init : goal.loop-node-init
-loop-node-init g t c = record { text = Appended-nil _; count = c.in_ok-write_node_line-2.ensures.count }
+loop-node-init g t c = record { text = Appended-nil _; count = c.in_ok-write_node_line-2.ensures.count; writes = c.in_ok-write_node_line-2.ensures.writes }
 
 pub returns-in_err-write_node-clause-prefix : goal.returns-in_err-write_node-clause-prefix
 returns-in_err-write_node-clause-prefix g t c =
@@ -50,6 +51,7 @@ loop-node-preserved g t c =
     record {
       text = Appended-item text nodes c.loop-node.node-index c.node-item.result _ _ _ within c.node-item.is c.loop-node.invariant.text whole;
       count = omega arith;
+      writes = Wrote-both g.K.Sink.write_gives _ _ _ c.loop-node.invariant.writes c.in_ok-write_node.ensures.writes;
     }
 
 pub returns-in_err-write_end-clause-prefix : goal.returns-in_err-write_end-clause-prefix
@@ -74,3 +76,25 @@ returns-clause-whole g t c =
 
 pub returns-clause-prefix : goal.returns-clause-prefix
 returns-clause-prefix g t c = AppendedPrefix-whole _ _ _ (returns-clause-whole g t c)
+
+pub returns-in_err-write_node_line-clause-writes : goal.returns-in_err-write_node_line-clause-writes
+returns-in_err-write_node_line-clause-writes g t c = Writes-stopped g.K.Sink.write_gives c.from_residual.result c.from_residual.ensures.0 _ _ c.in_err-write_node_line.ensures.writes
+
+pub returns-in_err-more-clause-writes : goal.returns-in_err-more-clause-writes
+returns-in_err-more-clause-writes g t c = Writes-none g.K.Sink.write_gives c.from_residual-in_err-more.result _
+
+pub returns-in_err-write_node_line-2-clause-writes : goal.returns-in_err-write_node_line-2-clause-writes
+returns-in_err-write_node_line-2-clause-writes g t c = Writes-stopped g.K.Sink.write_gives c.from_residual-in_err-write_node_line-2.result c.from_residual-in_err-write_node_line-2.ensures.0 _ _ c.in_err-write_node_line-2.ensures.writes
+
+pub returns-in_err-write_node-clause-writes : goal.returns-in_err-write_node-clause-writes
+returns-in_err-write_node-clause-writes g t c =
+    Writes-after g.K.Sink.write_gives c.from_residual-in_err-write_node.result _ _ _ c.loop-node.invariant.writes
+    (Writes-stopped g.K.Sink.write_gives c.from_residual-in_err-write_node.result c.from_residual-in_err-write_node.ensures.0 _ _ c.in_err-write_node.ensures.writes)
+
+pub returns-in_err-write_end-clause-writes : goal.returns-in_err-write_end-clause-writes
+returns-in_err-write_end-clause-writes g t c =
+    Writes-after g.K.Sink.write_gives c.from_residual-in_err-write_end.result _ _ _ c.loop-node.invariant.writes
+    (Writes-stopped g.K.Sink.write_gives c.from_residual-in_err-write_end.result c.from_residual-in_err-write_end.ensures.0 _ _ c.in_err-write_end.ensures.writes)
+
+pub returns-clause-writes : goal.returns-clause-writes
+returns-clause-writes g t c = Wrote-both g.K.Sink.write_gives _ _ _ c.loop-node.invariant.writes c.in_ok-write_end.ensures.writes

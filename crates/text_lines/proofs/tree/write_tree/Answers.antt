@@ -6,6 +6,7 @@ use Rattle.spec_outside.specs.Appending.{Appended, AppendedPrefix}
 use Rattle.text_lines.proofs.Trees.{Appended-all, Appended-element, Appended-item, AppendedPrefix-element_below, AppendedPrefix-element_end, AppendedPrefix-element_start, AppendedPrefix-item, file_lines, written-filled}
 use Rattle.text_lines.specs.Trees.{written}
 use Rattle.text_lines.specs.declared.tree.WrittenTree.{WrittenTree as Written}
+use Rattle.base_outside.proofs.Writings.{Writes-after, Writes-none, Writes-stopped, Wrote-both}
 use Rattle.text_lines.proofs.tree.write_tree.Goals as goal
 
 pub returns-in_err-write_mark-clause-prefix : goal.returns-in_err-write_mark-clause-prefix
@@ -39,6 +40,7 @@ loop-written-preserved g c =
     record {
       text = Appended-item text trees c.loop-written.written-index c.written-item.result _ _ _ within c.written-item.is c.loop-written.invariant.text c.in_ok-write_written.ensures.whole;
       count = omega arith;
+      writes = Wrote-both g.K.Sink.write_gives _ _ _ c.loop-written.invariant.writes c.in_ok-write_written.ensures.writes;
     }
 
 pub returns-in_err-write_end-clause-prefix : goal.returns-in_err-write_end-clause-prefix
@@ -67,3 +69,25 @@ returns-clause-whole g c =
 
 pub returns-clause-prefix : goal.returns-clause-prefix
 returns-clause-prefix g c = AppendedPrefix-whole _ _ _ (returns-clause-whole g c)
+
+pub returns-in_err-trees-clause-writes : goal.returns-in_err-trees-clause-writes
+returns-in_err-trees-clause-writes g c = Writes-none g.K.Sink.write_gives c.from_residual.result _
+
+pub returns-in_err-line-clause-writes : goal.returns-in_err-line-clause-writes
+returns-in_err-line-clause-writes g c = Writes-none g.K.Sink.write_gives c.from_residual-in_err-line.result _
+
+pub returns-in_err-write_mark-clause-writes : goal.returns-in_err-write_mark-clause-writes
+returns-in_err-write_mark-clause-writes g c = Writes-stopped g.K.Sink.write_gives c.from_residual-in_err-write_mark.result c.from_residual-in_err-write_mark.ensures.0 _ _ c.in_err-write_mark.ensures.writes
+
+pub returns-in_err-write_written-clause-writes : goal.returns-in_err-write_written-clause-writes
+returns-in_err-write_written-clause-writes g c =
+    Writes-after g.K.Sink.write_gives c.from_residual-in_err-write_written.result _ _ _ c.loop-written.invariant.writes
+    (Writes-stopped g.K.Sink.write_gives c.from_residual-in_err-write_written.result c.from_residual-in_err-write_written.ensures.0 _ _ c.in_err-write_written.ensures.writes)
+
+pub returns-in_err-write_end-clause-writes : goal.returns-in_err-write_end-clause-writes
+returns-in_err-write_end-clause-writes g c =
+    Writes-after g.K.Sink.write_gives c.from_residual-in_err-write_end.result _ _ _ c.loop-written.invariant.writes
+    (Writes-stopped g.K.Sink.write_gives c.from_residual-in_err-write_end.result c.from_residual-in_err-write_end.ensures.0 _ _ c.in_err-write_end.ensures.writes)
+
+pub returns-clause-writes : goal.returns-clause-writes
+returns-clause-writes g c = Wrote-both g.K.Sink.write_gives _ _ _ c.loop-written.invariant.writes c.in_ok-write_end.ensures.writes

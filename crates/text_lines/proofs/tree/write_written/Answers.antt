@@ -4,6 +4,7 @@ use Rattle.spec_tree.specs.PrintedTree.{printed}
 use Rattle.spec_tree.specs.declared.term.Term.{Term}
 use Rattle.base_outside.proofs.Appends.{AppendedPrefix-whole}
 use Rattle.text_lines.proofs.Trees.{Appended-all, Appended-element, Appended-element_empty, Appended-item, AppendedPrefix-element_below, AppendedPrefix-element_empty, AppendedPrefix-element_end, AppendedPrefix-element_start, AppendedPrefix-item, length_empty, length_filled}
+use Rattle.base_outside.proofs.Writings.{Writes-after, Writes-stopped, Wrote-both}
 use Rattle.text_lines.proofs.tree.write_written.Goals as goal
 
 pub returns-then-is_empty-clause-whole : goal.returns-then-is_empty-clause-whole
@@ -50,6 +51,7 @@ loop-node-preserved g c =
     record {
       text = Appended-item text nodes c.loop-node.node-index c.node-item.result _ _ _ within c.node-item.is c.loop-node.invariant.text c.in_ok-write_node.ensures.whole;
       count = omega arith;
+      writes = Wrote-both g.K.Sink.write_gives _ _ _ c.loop-node.invariant.writes c.in_ok-write_node.ensures.writes;
     }
 
 pub returns-in_err-write_end-clause-prefix : goal.returns-in_err-write_end-clause-prefix
@@ -74,3 +76,22 @@ returns-clause-whole g c =
 
 pub returns-clause-prefix : goal.returns-clause-prefix
 returns-clause-prefix g c = AppendedPrefix-whole _ _ _ (returns-clause-whole g c)
+
+pub returns-in_err-write_mark-clause-writes : goal.returns-in_err-write_mark-clause-writes
+returns-in_err-write_mark-clause-writes g c = Writes-stopped g.K.Sink.write_gives c.from_residual.result c.from_residual.ensures.0 _ _ c.in_err-write_mark.ensures.writes
+
+pub returns-in_err-write_mark-2-clause-writes : goal.returns-in_err-write_mark-2-clause-writes
+returns-in_err-write_mark-2-clause-writes g c = Writes-stopped g.K.Sink.write_gives c.from_residual-in_err-write_mark-2.result c.from_residual-in_err-write_mark-2.ensures.0 _ _ c.in_err-write_mark-2.ensures.writes
+
+pub returns-in_err-write_node-clause-writes : goal.returns-in_err-write_node-clause-writes
+returns-in_err-write_node-clause-writes g c =
+    Writes-after g.K.Sink.write_gives c.from_residual-in_err-write_node.result _ _ _ c.loop-node.invariant.writes
+    (Writes-stopped g.K.Sink.write_gives c.from_residual-in_err-write_node.result c.from_residual-in_err-write_node.ensures.0 _ _ c.in_err-write_node.ensures.writes)
+
+pub returns-in_err-write_end-clause-writes : goal.returns-in_err-write_end-clause-writes
+returns-in_err-write_end-clause-writes g c =
+    Writes-after g.K.Sink.write_gives c.from_residual-in_err-write_end.result _ _ _ c.loop-node.invariant.writes
+    (Writes-stopped g.K.Sink.write_gives c.from_residual-in_err-write_end.result c.from_residual-in_err-write_end.ensures.0 _ _ c.in_err-write_end.ensures.writes)
+
+pub returns-clause-writes : goal.returns-clause-writes
+returns-clause-writes g c = Wrote-both g.K.Sink.write_gives _ _ _ c.loop-node.invariant.writes c.in_ok-write_end.ensures.writes

@@ -18,4 +18,5 @@ invariant-loop-next g l =
       made : MakesPart g.of (Ok Done) old now (λ rest. events_then g.of.tree g.of.world l.events rest (state_at g.of old)) (λ rest. events_then g.of.tree g.of.world left rest (state_at g.of now));
       come : CanAllCome g.of l.underway.runs.last left;
       last : last_moment l.underway.runs.last left ≡ last_moment l.fn.underway.runs.last l.events;
+      shows : g.W.Watch.shows l.fn.watch (Ok tt) l.watch;
     }

@@ -2,12 +2,14 @@ use Rattle.std.proofs.Common.{◌<◌, ◌≤◌, ◌+◌, ◌∙◌, Ok, ap, ar
 use Rattle.text_trace.proofs.Following.{finish_next, finishes_end, finishes_first}
 use Rattle.text_trace.proofs.Parts.{go_on, handed_on, not_done, part_none, part_on, part_over, part_runs, part_to}
 use Rattle.text_trace.proofs.Rests.{next_rests, none_yet, rest_holds_nothing}
+use Rattle.text_trace.proofs.ShownBlocks.{shown_done, shown_stopped, shown_then}
 use Rattle.text_trace.proofs.finishes.finish_all.Goals as goal
 
 pub loop-place-init : goal.loop-place-init
 loop-place-init g c = record {
   made = part_none g.of _ _ _ c.requires.1.1.are (λ rest. finishes_first g.of.tree g.of.world rest _);
   rest = none_yet g.of.tree _ c.args.underway.now.runs;
+  shows = g.met.W.Watch.shows_none _;
 }
 
 pub finish_one-requires : goal.finish_one-requires
@@ -33,6 +35,7 @@ loop-place-preserved g c =
     record {
       made = part_on g.of _ _ _ _ c.finish_one.result _ _ _ done c.loop-place.invariant.made (λ rest. finish_next g.of.tree g.of.world c.loop-place.place rest _ low) c.finish_one.ensures.made;
       rest = next_rests g.of.tree c.loop-place.place _ _ c.loop-place.underway.runs c.finish_one.new.underway.runs (c.finish_one.ensures.rests done) c.loop-place.invariant.rest;
+      shows = g.met.W.Watch.shows_both _ _ _ (Ok tt) c.loop-place.invariant.shows (shown_done g.W.Watch.shows c.finish_one.result _ _ c.in_ok-finish_one.was c.finish_one.ensures.shows);
     }
 
 pub returns-clause-made : goal.returns-clause-made
@@ -51,3 +54,12 @@ returns-in_err-finish_one-clause-made g c =
     let low : c.loop-place.place < g.of.world.runners = omega (arith, c.loop-place-test.true, c.len-place-end.ensures, c.requires.1.1.are.fit.many) in
     part_over g.of _ _ _ _ c.finish_one.result c.from_residual.result _ _ _ (handed_on _ _ _ c.in_err-finish_one.was c.from_residual.ensures.1) (λ done. not_done c.from_residual.result c.from_residual.ensures.0 done)
     c.loop-place.invariant.made (λ rest. finish_next g.of.tree g.of.world c.loop-place.place rest _ low) c.finish_one.ensures.made
+
+pub returns-in_err-finish_one-clause-shows : goal.returns-in_err-finish_one-clause-shows
+returns-in_err-finish_one-clause-shows g c =
+    shown_stopped g.W.Watch.shows c.finish_one.result c.from_residual.result _ _ _ c.in_err-finish_one.was c.from_residual.ensures.1
+    (shown_then g.W.Watch.shows g.met.W.Watch.shows_both c.finish_one.result _ _ _ c.loop-place.invariant.shows c.finish_one.ensures.shows)
+
+pub returns-in-Faulted-clause-shows : goal.returns-in-Faulted-clause-shows
+returns-in-Faulted-clause-shows g c =
+    g.met.W.Watch.shows_both _ _ _ (Ok tt) c.loop-place.invariant.shows (shown_done g.W.Watch.shows c.finish_one.result _ _ c.in_ok-finish_one.was c.finish_one.ensures.shows)

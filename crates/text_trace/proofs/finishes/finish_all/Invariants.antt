@@ -16,4 +16,5 @@ invariant-loop-place g l =
       made : MakesPart g.of (Ok Done) old now (λ rest. finishes_then g.of.tree g.of.world 1 many rest (state_at g.of old))
           (λ rest. finishes_then g.of.tree g.of.world (l.place + 1) (many - l.place) rest (state_at g.of now));
       rest : AreAtRest l.place (state_at g.of now);
+      shows : g.W.Watch.shows l.fn.watch (Ok tt) l.watch;
     }

@@ -5,13 +5,14 @@ use Rattle.text_trace.specs.Traces.{CanAllCome, last_moment}
 use Rattle.text_trace.proofs.Following.{round_can_come, round_last}
 use Rattle.text_trace.proofs.Lives.{before_it, before_last, given_next, given_none, one_more, round_is, round_on, round_over, rounds_all, rounds_stopped}
 use Rattle.text_trace.proofs.Parts.{go_on, handed_on, not_done, part_none}
+use Rattle.text_trace.proofs.ShownBlocks.{shown_done, shown_stopped, shown_then}
 use Rattle.text_trace.proofs.rounds.follow_clock.Goals as goal
 
 pub loop-init : goal.loop-init
-loop-init g c = record { rounds = ([], refl, given_none _, λ later. part_none g.of _ _ _ c.requires.1.1.1.are (λ rest. refl)); passed = omega arith }
+loop-init g c = record { rounds = ([], refl, given_none _, λ later. part_none g.of _ _ _ c.requires.1.1.1.are (λ rest. refl)); passed = omega arith; shows = g.met.W.Watch.shows_none _ }
 
-pub returns-in_default : goal.returns-in_default
-returns-in_default g c =
+pub returns-in_default-clause-made : goal.returns-in_default-clause-made
+returns-in_default-clause-made g c =
     let inv = c.loop.invariant.rounds in
     record {
       given = inv.0 ++ c.now.result ∷ [];
@@ -30,8 +31,8 @@ follow-requires g c lifetimes live =
     let is : c.as_slice.result.now ≡ round_of g.of.world.runners c.max-last.result = c.as_slice.ensures.value ∙ c.in-Ok.ensures ∙ ap (λ (k : ℕ). round_of k c.max-last.result) runners in
     (live.0, (live.1, (go_on g.of _ _ _ _ (c.loop.invariant.rounds.3 []) c.requires.1.1.1, subst (CanAllCome g.of c.loop.underway.runs.last) (sym is) (round_can_come g.of c.loop.underway.runs.last c.max-last.result low))))
 
-pub returns-in_err-follow : goal.returns-in_err-follow
-returns-in_err-follow g c =
+pub returns-in_err-follow-clause-made : goal.returns-in_err-follow-clause-made
+returns-in_err-follow-clause-made g c =
     let inv = c.loop.invariant.rounds in
     let runners : c.len-runners.result ≡ g.of.world.runners = omega (arith, c.len-runners.ensures, c.requires.1.1.1.are.fit.many) in
     let is : c.as_slice.result.now ≡ round_of g.of.world.runners c.max-last.result = c.as_slice.ensures.value ∙ c.in-Ok.ensures ∙ ap (λ (k : ℕ). round_of k c.max-last.result) runners in
@@ -46,8 +47,8 @@ returns-in_err-follow g c =
       before = before_it g.of _ _ inv.0 _ _ c.now.result c.max-last.result c.max-last.ensures inv.3;
     }
 
-pub returns-in-Faulted : goal.returns-in-Faulted
-returns-in-Faulted g c =
+pub returns-in-Faulted-clause-made : goal.returns-in-Faulted-clause-made
+returns-in-Faulted-clause-made g c =
     let inv = c.loop.invariant.rounds in
     let runners : c.len-runners.result ≡ g.of.world.runners = omega (arith, c.len-runners.ensures, c.requires.1.1.1.are.fit.many) in
     let is : c.as_slice.result.now ≡ round_of g.of.world.runners c.max-last.result = c.as_slice.ensures.value ∙ c.in-Ok.ensures ∙ ap (λ (k : ℕ). round_of k c.max-last.result) runners in
@@ -79,10 +80,11 @@ loop-preserved g c =
         λ later. round_on g.of _ _ inv.0 _ _ c.now.result c.max-last.result c.max-last.ensures c.follow.result _ done inv.3 (round_is g.of c.follow.result _ _ _ _ is c.follow.ensures.made) later,
       );
       passed = omega (arith, last, round_last g.of.world.runners c.loop.underway.runs.last c.max-last.result low);
+      shows = g.met.W.Watch.shows_both _ _ _ (Ok tt) c.loop.invariant.shows (shown_done g.W.Watch.shows c.follow.result _ _ c.in_ok-follow.was c.follow.ensures.shows);
     }
 
-pub returns : goal.returns
-returns g c =
+pub returns-clause-made : goal.returns-clause-made
+returns-clause-made g c =
     let inv = c.loop.invariant.rounds in
     record {
       given = inv.0;
@@ -92,3 +94,15 @@ returns g c =
       made = λ later none. rounds_all g.of _ _ inv.0 _ _ inv.3 later (none refl);
       before = before_last g.of _ _ inv.0 _ _ inv.3;
     }
+
+pub returns-in_err-follow-clause-shows : goal.returns-in_err-follow-clause-shows
+returns-in_err-follow-clause-shows g c =
+    shown_stopped g.W.Watch.shows c.follow.result c.from_residual.result _ _ _ c.in_err-follow.was c.from_residual.ensures.1
+    (shown_then g.W.Watch.shows g.met.W.Watch.shows_both c.follow.result _ _ _ c.loop.invariant.shows c.follow.ensures.shows)
+
+pub returns-in-Faulted-clause-shows : goal.returns-in-Faulted-clause-shows
+returns-in-Faulted-clause-shows g c =
+    g.met.W.Watch.shows_both _ _ _ (Ok tt) c.loop.invariant.shows (shown_done g.W.Watch.shows c.follow.result _ _ c.in_ok-follow.was c.follow.ensures.shows)
+
+pub returns-in_default-clause-shows : goal.returns-in_default-clause-shows
+returns-in_default-clause-shows g c = g.met.W.Watch.shows_stop _ _ _ c.loop.invariant.shows

@@ -17,4 +17,5 @@ invariant-loop g l =
           ((later : List ℕ) →
           MakesPart g.of (Ok Done) old now (λ rest. rounds_then g.of l.fn.underway.runs.last (given ++ later) rest (state_at g.of old)) (λ rest. rounds_then g.of l.last later rest (state_at g.of now)));
       passed : l.underway.runs.last ≤ l.last;
+      shows : g.W.Watch.shows l.fn.watch (Ok tt) l.watch;
     }

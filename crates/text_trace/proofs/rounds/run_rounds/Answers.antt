@@ -7,6 +7,7 @@ use Rattle.text_trace.specs.Traces.{trace_of}
 use Rattle.text_trace.proofs.Following.{run_is}
 use Rattle.text_trace.proofs.Lives.{are_moments, asked_as, asked_nothing, given_none, to_come}
 use Rattle.text_trace.proofs.Parts.{begun, leaves_halted, leaves_nothing, leaves_run, part_few, part_room}
+use Rattle.text_trace.proofs.ShownBlocks.{shown_out}
 use Rattle.text_trace.proofs.rounds.run_rounds.Goals as goal
 
 pub begin-requires : goal.begin-requires
@@ -69,3 +70,6 @@ finish_unwritten-requires g c =
     let made = c.in-Err.ensures.made.made in
     let can = begun g.of _ c.args.runs c.in_ok-underway.underway c.requires.1.1.1 c.in_ok-underway.ensures.runs c.in_ok-underway.ensures.room in
     λ lifetimes live. (live, (made.stand, (part_few g.of _ _ _ _ _ made can.few, part_room g.of _ _ _ _ _ made can.room)))
+
+pub returns-in_err-underway-clause-shows : goal.returns-in_err-underway-clause-shows
+returns-in_err-underway-clause-shows g c = shown_out g.W.Watch.shows g.met.W.Watch.shows_stop c.from_residual.result _ _ c.from_residual.ensures.0 (g.met.W.Watch.shows_none _)

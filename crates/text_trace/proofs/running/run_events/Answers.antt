@@ -5,6 +5,7 @@ use Rattle.run_loop.proofs.Rising.{roster_both, same_roster}
 use Rattle.text_trace.specs.Traces.{trace_of}
 use Rattle.text_trace.proofs.Following.{run_is}
 use Rattle.text_trace.proofs.Parts.{begun, come_as, leaves_halted, leaves_nothing, leaves_run, part_few, part_room}
+use Rattle.text_trace.proofs.ShownBlocks.{shown_out}
 use Rattle.text_trace.proofs.running.run_events.Goals as goal
 
 pub begin-requires : goal.begin-requires
@@ -57,3 +58,6 @@ returns-clause-watcher g c = c.in-Err.ensures.made.watcher
 
 pub returns-in-Ok-clause-watcher : goal.returns-in-Ok-clause-watcher
 returns-in-Ok-clause-watcher g c = c.in-Ok.ensures.made.watcher
+
+pub returns-in_err-underway-clause-shows : goal.returns-in_err-underway-clause-shows
+returns-in_err-underway-clause-shows g c = shown_out g.W.Watch.shows g.met.W.Watch.shows_stop c.from_residual.result _ _ c.from_residual.ensures.0 (g.met.W.Watch.shows_none _)

@@ -1,5 +1,6 @@
 use Rattle.std.proofs.Common.{◌≤◌, length}
-use Rattle.world_ground.specs.Writing.{IsUnderway}
+use Rattle.spec_outside.specs.Writes.{AreLines, WroteLines}
+use Rattle.world_ground.specs.Writing.{AreLinesOrNone, IsUnderway}
 use Rattle.world_ground.proofs.write.write_ground.Given as goal
 
 abbrev pub invariant-lines : goal.invariant-lines
@@ -9,6 +10,7 @@ invariant-lines g l =
     record {
       underway : IsUnderway l.g.text l.rest (written l.fn.out) (written l.out);
       count : faults l.fn.out ≤ faults l.out;
+      writes : AreLines l.g.text → WroteLines g.K.Sink.write_gives l.fn.out l.out × AreLinesOrNone l.rest;
     }
 
 abbrev pub decreases-lines : goal.decreases-lines
