@@ -1,3 +1,5 @@
 pub mod Expecting
+pub mod FaultLines
 pub mod Runs
 pub mod Within
+pub mod Written

@@ -1,3 +1,4 @@
 pub mod AboutCourses
 pub mod AboutPlanning
+pub mod LineEnds
 pub mod Pairs

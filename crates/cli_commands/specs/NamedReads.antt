@@ -8,7 +8,6 @@ use Rattle.cli_refusals.specs.declared.refusal.Refusal.{Refusal}
 use Rattle.spec_program.specs.Reads.{Reading, NamedFile, AreRead, StoppedAt}
 use Rattle.cli_commands.specs.Unread.{IsUnread}
 use Rattle.spec_outside.specs.declared.shelf_fault.ShelfFault.TheVariants as fault
-use Rattle.spec_program.specs.declared.file.File.TheVariants as file
 use Rattle.cli_refusals.specs.declared.refusal.Refusal.TheVariants as refusal
 
 -- a read gave these bytes of a file, which are those that the shelf tells

@@ -7,7 +7,6 @@ use Rattle.spec_world.specs.declared.world.World.{World}
 use Rattle.spec_program.specs.Output.{Ending}
 use Rattle.spec_program.specs.Courses.{given}
 use Rattle.spec_program.specs.Gives.{standing_output}
-use Rattle.spec_program.specs.declared.course.Course.TheVariants as course
 
 -- .. by its script, by the moments of a clock, or as a load
 abbrev pub StandingGives : Result Tree MockFault → World → Course → Ending

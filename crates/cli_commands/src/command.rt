@@ -9,9 +9,9 @@ ghost use Rattle.spec_tree.specs.Trees.{IsValid};
 ghost use Rattle.spec_world.specs.Worlds.{IsValidWorld};
 ghost use Rattle.spec_program.specs.declared.course.Course.TheVariants as course;
 ghost use Rattle.spec_program.specs.Answered.{AreShort, WordsAnswered};
-ghost use Rattle.spec_program.specs.Answers.{side};
+ghost use Rattle.spec_program.specs.Answers.{WritesAt, side};
 ghost use Rattle.spec_outside.specs.Counts.{Rose};
-ghost use Rattle.cli_refusals.specs.Ends.{EndsAt};
+ghost use Rattle.cli_refusals.specs.Ends.{EndWrites, EndsAt};
 ghost use Rattle.cli_refusals.specs.Lent.Lent.{Stays, seen};
 ghost use Rattle.cli_commands.specs.Named.{contents_of};
 ghost use Rattle.spec_program.specs.Expecting.{ExpectGives};
@@ -64,6 +64,7 @@ fn run_files<S: Shelf, K: Sink, C: Clock, D: Drivers>(
         (seen K.written K.faults C.moments D.states outside.new) }
     ensures unread { outside.new.shelf.now ≡ outside.old.shelf.now }
     ensures stays { Stays S.faults K.faults D.states outside.old outside.new }
+    ensures writes { EndWrites K.write_gives result outside.old.out.now outside.new.out.now }
 {
     let tree = parse_tree(alloc, tree, main)?;
     // What is large is dropped by a call, here and below, which is proved once.
@@ -94,6 +95,7 @@ fn make_and_run<S: Shelf, K: Sink, C: Clock, D: Drivers>(
         (seen K.written K.faults C.moments D.states outside.new) }
     ensures unread { outside.new.shelf.now ≡ outside.old.shelf.now }
     ensures stays { Stays S.faults K.faults D.states outside.old outside.new }
+    ensures writes { EndWrites K.write_gives result outside.old.out.now outside.new.out.now }
 {
     let tree = load_tree(alloc, leaves)?;
     let world = load_world(alloc, leaves)?;
@@ -123,6 +125,7 @@ fn print_file<S: Shelf, K: Sink, C: Clock, D: Drivers>(
         (seen K.written K.faults C.moments D.states outside.new) }
     ensures unread { outside.new.shelf.now ≡ outside.old.shelf.now }
     ensures stays { Stays S.faults K.faults D.states outside.old outside.new }
+    ensures writes { EndWrites K.write_gives result outside.old.out.now outside.new.out.now }
 {
     let tree = parse_tree(alloc, tree, main)?;
     let exit = print_tree(alloc, &tree, print, outside.out);
@@ -145,6 +148,7 @@ fn exclusive_file<S: Shelf, K: Sink, C: Clock, D: Drivers>(
         (seen K.written K.faults C.moments D.states outside.new) }
     ensures unread { outside.new.shelf.now ≡ outside.old.shelf.now }
     ensures stays { Stays S.faults K.faults D.states outside.old outside.new }
+    ensures writes { EndWrites K.write_gives result outside.old.out.now outside.new.out.now }
 {
     let tree = parse_tree(alloc, tree, main)?;
     let exit = print_exclusive(alloc, &tree, ids, outside.out);
@@ -167,6 +171,7 @@ fn plan_file<S: Shelf, K: Sink, C: Clock, D: Drivers>(
         (seen K.written K.faults C.moments D.states outside.new) }
     ensures unread { outside.new.shelf.now ≡ outside.old.shelf.now }
     ensures stays { Stays S.faults K.faults D.states outside.old outside.new }
+    ensures writes { EndWrites K.write_gives result outside.old.out.now outside.new.out.now }
 {
     let world = read_world(alloc, world)?;
     let ended = plan_and_print(alloc, &world, limits, outside);
@@ -189,6 +194,7 @@ fn plan_ground<S: Shelf, K: Sink, C: Clock, D: Drivers>(
         (seen K.written K.faults C.moments D.states outside.new) }
     ensures unread { outside.new.shelf.now ≡ outside.old.shelf.now }
     ensures stays { Stays S.faults K.faults D.states outside.old outside.new }
+    ensures writes { EndWrites K.write_gives result outside.old.out.now outside.new.out.now }
 {
     let ground = read_ground(alloc, bytes)?;
     let world = world_of(alloc, &ground)?;
@@ -210,6 +216,7 @@ fn ground_file<S: Shelf, K: Sink, C: Clock, D: Drivers>(
         (seen K.written K.faults C.moments D.states outside.new) }
     ensures unread { outside.new.shelf.now ≡ outside.old.shelf.now }
     ensures stays { Stays S.faults K.faults D.states outside.old outside.new }
+    ensures writes { EndWrites K.write_gives result outside.old.out.now outside.new.out.now }
 {
     let ground = read_ground(alloc, bytes)?;
     Ok(print_ground(&ground, outside.out))
@@ -235,6 +242,7 @@ fn expect_files<S: Shelf, K: Sink, C: Clock, D: Drivers>(
         (seen K.written K.faults C.moments D.states outside.new) }
     ensures unread { outside.new.shelf.now ≡ outside.old.shelf.now }
     ensures stays { Stays S.faults K.faults D.states outside.old outside.new }
+    ensures writes { EndWrites K.write_gives result outside.old.out.now outside.new.out.now }
 {
     let tree = parse_tree(alloc, tree, main)?;
     match read_world(alloc, world) {
@@ -267,6 +275,7 @@ fn run_mocked<S: Shelf, K: Sink, C: Clock, D: Drivers>(
         (seen K.written K.faults C.moments D.states outside.new) }
     ensures unread { outside.new.shelf.now ≡ outside.old.shelf.now }
     ensures stays { Stays S.faults K.faults D.states outside.old outside.new }
+    ensures writes { EndWrites K.write_gives result outside.old.out.now outside.new.out.now }
 {
     match mock_tree(alloc, tree, rules) {
         Ok(mocked) => {
@@ -297,6 +306,7 @@ fn mock_files<S: Shelf, K: Sink, C: Clock, D: Drivers>(
         (seen K.written K.faults C.moments D.states outside.new) }
     ensures unread { outside.new.shelf.now ≡ outside.old.shelf.now }
     ensures stays { Stays S.faults K.faults D.states outside.old outside.new }
+    ensures writes { EndWrites K.write_gives result outside.old.out.now outside.new.out.now }
 {
     let tree = parse_tree(alloc, tree, main)?;
     match read_world(alloc, world) {
@@ -329,6 +339,7 @@ fn print_mocked<S: Shelf, K: Sink, C: Clock, D: Drivers>(
         (seen K.written K.faults C.moments D.states outside.new) }
     ensures unread { outside.new.shelf.now ≡ outside.old.shelf.now }
     ensures stays { Stays S.faults K.faults D.states outside.old outside.new }
+    ensures writes { EndWrites K.write_gives result outside.old.out.now outside.new.out.now }
 {
     let tree = parse_tree(alloc, tree, main)?;
     match mock_tree_apart(alloc, &tree, rules) {
@@ -374,6 +385,7 @@ fn answer<S: Shelf, K: Sink, C: Clock, D: Drivers>(
         (seen K.written K.faults C.moments D.states outside.new) }
     ensures unread { outside.new.shelf.now ≡ outside.old.shelf.now }
     ensures stays { Stays S.faults K.faults D.states outside.old outside.new }
+    ensures writes { EndWrites K.write_gives result outside.old.out.now outside.new.out.now }
 {
     let (tree, world, rules, expect) = (
         files.tree.as_slice(),
@@ -424,6 +436,7 @@ fn answer_words<S: Shelf, K: Sink, C: Clock, D: Drivers>(
         (seen K.written K.faults C.moments D.states outside.new) }
     ensures held { S.holds outside.new.shelf.now ≡ S.holds outside.old.shelf.now }
     ensures stays { Stays S.faults K.faults D.states outside.old outside.new }
+    ensures writes { WritesAt K.write_gives result outside.old.out.now outside.new.out.now }
 {
     let Some(command) = read_command(words) else {
         return write_refusal(alloc, &Refusal::Words, outside.out);
@@ -457,6 +470,7 @@ pub fn run_words<S: Shelf, K: Sink, C: Clock, D: Drivers>(
     ensures kept { AreKept (D.states drivers.old) (D.states drivers.new) }
     ensures read_count { S.faults shelf.old ≤ S.faults shelf.new }
     ensures count { K.faults out.old ≤ K.faults out.new }
+    ensures writes { WritesAt K.write_gives result out.old out.new }
 {
     let mut outside = Outside {
         shelf,

@@ -137,7 +137,8 @@ pub fn read_files<S: Shelf>(
     shelf: &mut S,
 ) -> Result<FilesRead, Refusal>
     ensures read { IfOk result (λ files.
-        AreRead S.read_gives (S.holds shelf.old) (in_order (files_of (command_seen command.entry))) (AllRead (contents_of files)) shelf.old shelf.new) }
+        AreRead S.read_gives (S.holds shelf.old) (in_order (files_of (command_seen command.entry)))
+        (AllRead (contents_of files)) shelf.old shelf.new) }
     ensures within { IfOk result (λ files.
         AreWithin (S.holds shelf.old) (files_of (command_seen command.entry)) (contents_of files)) }
     ensures unread { IfErr result (λ refusal.

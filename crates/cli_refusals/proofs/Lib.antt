@@ -1,2 +1,3 @@
 pub mod AboutLent
 pub mod Ends
+pub mod Writings

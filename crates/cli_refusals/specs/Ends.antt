@@ -4,7 +4,8 @@ use Rattle.spec_program.specs.declared.exit.Exit.{Exit}
 use Rattle.cli_refusals.specs.declared.refusal.Refusal.{Refusal}
 use Rattle.spec_program.specs.Output.{AreUncalled, Begun, Output, Ending}
 use Rattle.cli_refusals.specs.Refusing.{refused_as}
-use Rattle.spec_program.specs.Answers.{Answers, AtMoments, Side}
+use Rattle.spec_program.specs.Answers.{Answers, AtMoments, Side, WritesAt}
+use Rattle.spec_outside.specs.Writes.{Writing}
 
 -- nothing was written, the clock was not asked, and no driver was called
 pub record IsUntouched (old new : Side) : Type 0 where
@@ -22,3 +23,8 @@ Ends IsOutput HaveBegun (Err refusal) old new = IfSome (refused_as refusal) IsOu
 -- so it ends at the moments that the clock tells, or at some where it tells none
 abbrev pub EndsAt : Ending → Begun → Result Exit Refusal → Side → Side → Type 0
 EndsAt Gives HaveBegun result old new = AtMoments old.clock (λ moments. Ends (Gives moments old.drivers) HaveBegun result old new)
+
+-- whole lines were written by a command with this exit; of a refusal nothing was written yet
+abbrev pub EndWrites : {Sink Fault : Type 0} → Writing Sink Fault → Result Exit Refusal → Sink → Sink → Type 0
+EndWrites gives (Ok exit) old new = WritesAt gives exit old new
+EndWrites gives (Err refusal) old new = new ≡ old

@@ -3,6 +3,8 @@ ghost use Rattle.cli_refusals.specs.Refusing.{IsRefused};
 ghost use Rattle.spec_program.specs.Refused.{too_long, unread};
 ghost use Rattle.cli_refusals.specs.Printing.{IsSpoken, Printed};
 ghost use Rattle.spec_program.specs.Output.{line_of};
+ghost use Rattle.spec_outside.specs.Writes.{AreLines};
+ghost use Rattle.spec_program.specs.Answers.{WritesAt};
 
 use crate::line::{
     expect_refusal, ground_refusal, join_refusal, rules_refusal, tree_refusal, world_refusal,
@@ -141,10 +143,12 @@ impl From<Stop<GroundFault>> for Refusal {
 
 /// Writes the one line of a command, which ends the program with this exit.
 fn write_last<K: Sink>(line: &[u8], exit: Exit, out: &mut K) -> Exit
-    requires { IsSpoken exit }
+    requires spoken { IsSpoken exit }
+    requires lines { AreLines line.now }
     ensures printed { Printed (line_of line.now exit) result
         (K.written out.old) (K.faults out.old) (K.written out.new) (K.faults out.new) }
     ensures count { K.faults out.old ≤ K.faults out.new }
+    ensures writes { WritesAt K.write_gives result out.old out.new }
 {
     match write_line(out, line) {
         Ok(()) => exit,
@@ -158,6 +162,7 @@ fn write_unread<K: Sink>(file: File, out: &mut K) -> Exit
     ensures printed { Printed (unread file) result
         (K.written out.old) (K.faults out.old) (K.written out.new) (K.faults out.new) }
     ensures count { K.faults out.old ≤ K.faults out.new }
+    ensures writes { WritesAt K.write_gives result out.old out.new }
 {
     match file {
         File::Tree => write_last(b"refused read tree\n", Exit::Read, out),
@@ -172,6 +177,7 @@ fn write_too_long<K: Sink>(file: File, out: &mut K) -> Exit
     ensures printed { Printed (too_long file) result
         (K.written out.old) (K.faults out.old) (K.written out.new) (K.faults out.new) }
     ensures count { K.faults out.old ≤ K.faults out.new }
+    ensures writes { WritesAt K.write_gives result out.old out.new }
 {
     match file {
         File::Tree => write_last(b"refused tree TooLong\n", Exit::Tree, out),
@@ -187,6 +193,7 @@ pub fn write_refusal<K: Sink>(alloc: Global, refusal: &Refusal, out: &mut K) -> 
     ensures refused { IsRefused refusal.now result
         (K.written out.old) (K.faults out.old) (K.written out.new) (K.faults out.new) }
     ensures count { K.faults out.old ≤ K.faults out.new }
+    ensures writes { WritesAt K.write_gives result out.old out.new }
 {
     match refusal {
         Refusal::Words => write_last(b"refused words\n", Exit::Words, out),

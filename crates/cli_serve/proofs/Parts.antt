@@ -1,9 +1,12 @@
 -- Parts of what is said, one after the other.
-use Rattle.std.proofs.Common.{◌≡◌, ◌∙◌, ◌≤◌, ℕ, List, [], ◌∷◌, ◌++◌, Result, Err, refl, sym, subst, append_assoc, append-nil}
+use Rattle.std.proofs.Common.{◌≡◌, ◌∙◌, ◌≤◌, ℕ, List, [], ◌∷◌, ◌++◌, Option, Some, None, Result, Err, refl, sym, ap, subst, append_assoc, append-nil}
+use Rattle.std.specs.Io.KnownBytes.{Keeps}
 use Rattle.std.specs.List.{concat}
 use Rattle.std.proofs.lemmas.List.Folds.{concat-append}
 use Rattle.base_outside.proofs.Appends.{Appended-nil, Appended-trans, AppendedPrefix-after, AppendedPrefix-longer, AppendedPrefix-nothing}
 use Rattle.base_outside.proofs.Rises.{Rose-after}
+use Rattle.base_outside.specs.declared.sink.SinkFault.{SinkFault}
+use Rattle.base_outside.specs.declared.sink.SinkFault.TheVariants as sink_fault
 use Rattle.cli_serve.specs.declared.over.Over.{Over}
 use Rattle.cli_serve.specs.declared.over.Over.TheVariants as over
 use Rattle.cli_serve.specs.Serving.{HasSaid, IsOver, IsPart, Out, Wrote, WroteFirst, stopped_exit}
@@ -16,6 +19,7 @@ use Rattle.spec_session.specs.Sessions.{Sitting}
 use Rattle.spec_world.specs.declared.world.Event.{Event}
 use Rattle.text_lines.specs.declared.stop.TextStop.{TextStop}
 use Rattle.text_lines.specs.declared.stop.TextStop.TheVariants as stop
+use Rattle.text_lines.specs.Stops.{text_stop}
 
 -- ---- Lines
 
@@ -128,6 +132,28 @@ pub line_first : (cause : TextStop) (line : List ℕ) (old new : Out) → Append
     (unwritten cause ≡ unwritten stop.WriteFault → Rose old.faults new.faults) → WroteFirst cause (line ∷ []) old new
 line_first cause line old new p failed =
     first_by cause (line ∷ []) old new (subst (λ (z : List ℕ). AppendedPrefix old.written new.written z) (sym (append-nil line)) p) failed
+
+abbrev pub unhanded : SinkFault → Result (Unit {0}) SinkFault
+unhanded fault = Err fault
+
+appended_kept : (old mid new : Option (List ℕ)) (line : List ℕ) → Appended old mid line → Keeps mid new → Appended old new line
+appended_kept None mid new line p q = tt
+appended_kept (Some x) None new line p q = cc
+appended_kept (Some x) (Some y) None line p q = absurd q
+appended_kept (Some x) (Some y) (Some z) line p q = ap Some q ∙ p
+
+prefix_kept : (old mid new : Out) (line : List ℕ) → Appended old.written mid.written line → Keeps mid.written new.written → AppendedPrefix old.written new.written line
+prefix_kept old mid new line whole kept =
+    record { front = line; rest = []; parts = sym (append-nil line); appended = appended_kept old.written mid.written new.written line whole kept }
+
+-- a line was written, and could not be handed on
+pub line_unhanded : (fault : SinkFault) (cause : TextStop) (line : List ℕ) (old mid new : Out) → cause ≡ text_stop fault → Appended old.written mid.written line
+    → Keeps mid.written new.written → old.faults ≤ mid.faults → (unhanded fault ≡ unhanded sink_fault.Failed → Rose mid.faults new.faults) → WroteFirst cause (line ∷ []) old new
+line_unhanded sink_fault.Failed cause line old mid new is whole kept count failed =
+    subst (λ (c : TextStop). WroteFirst c (line ∷ []) old new) (sym is)
+    (line_first stop.WriteFault line old new (prefix_kept old mid new line whole kept) (λ _. Rose-after old.faults mid.faults new.faults count (failed refl)))
+line_unhanded sink_fault.NoMemory cause line old mid new is whole kept count failed =
+    subst (λ (c : TextStop). WroteFirst c (line ∷ []) old new) (sym is) (line_first stop.NoMemory line old new (prefix_kept old mid new line whole kept) (λ same. cc))
 
 pub line_wrote : (line : List ℕ) (old new : Out) → Appended old.written new.written line → Wrote (line ∷ []) old new
 line_wrote line old new p = subst (λ (z : List ℕ). Appended old.written new.written z) (sym (append-nil line)) p

@@ -62,7 +62,8 @@ fn read_world<S: Shelf>(
 /// Reads the files that are served, in their order.
 fn read_files<S: Shelf>(alloc: Global, serve: Serve, shelf: &mut S) -> Result<Files, Refusal>
     ensures read { IfOk result (λ files.
-        AreRead S.read_gives (S.holds shelf.old) (in_order (files_of (serve_seen serve.entry))) (AllRead (contents_of files)) shelf.old shelf.new) }
+        AreRead S.read_gives (S.holds shelf.old) (in_order (files_of (serve_seen serve.entry)))
+        (AllRead (contents_of files)) shelf.old shelf.new) }
     ensures within { IfOk result (λ files. AreWithin (S.holds shelf.old) (files_of (serve_seen serve.entry)) (contents_of files)) }
     ensures world { IfOk result (λ files. is_some files.world ≡ is_some (serve_seen serve.entry).world) }
     ensures unread { IfErr result (λ refusal.

@@ -15,8 +15,9 @@ ghost use Rattle.spec_world.specs.Worlds.{IsValidWorld};
 ghost use Rattle.spec_tree.specs.Limits.{most_file_bytes};
 ghost use Rattle.spec_program.specs.Expecting.{JoinExpects};
 ghost use Rattle.spec_program.specs.Output.{AreUncalled};
-ghost use Rattle.cli_refusals.specs.Ends.{EndsAt};
+ghost use Rattle.cli_refusals.specs.Ends.{EndWrites, EndsAt};
 ghost use Rattle.cli_refusals.specs.Lent.Lent.{Stays, seen};
+ghost use Rattle.spec_outside.specs.Writes.{Writes};
 
 use crate::courses::join::joined_runs;
 use base_outside::{Clock, Shelf, Sink};
@@ -78,6 +79,7 @@ fn run_watched<S: Shelf, K: Sink, C: Clock, D: Drivers>(
         (seen K.written K.faults C.moments D.states outside.new) }
     ensures unread { outside.new.shelf.now ≡ outside.old.shelf.now }
     ensures stays { Stays S.faults K.faults D.states outside.old outside.new }
+    ensures writes { Writes K.write_gives result outside.old.out.now outside.new.out.now }
 {
     let watching = watching_of(alloc, joined.tree, joined.world, expected)?;
     let events = joined.world.events.list();
@@ -115,6 +117,7 @@ pub fn join_and_expect<S: Shelf, K: Sink, C: Clock, D: Drivers>(
         (seen K.written K.faults C.moments D.states outside.new) }
     ensures unread { outside.new.shelf.now ≡ outside.old.shelf.now }
     ensures stays { Stays S.faults K.faults D.states outside.old outside.new }
+    ensures writes { EndWrites K.write_gives result outside.old.out.now outside.new.out.now }
 {
     let slots = slots_of(alloc, tree)?;
     let names = names_of(alloc, tree, world, &slots)?;

@@ -11,12 +11,14 @@ ghost use Rattle.run_arena.specs.Joining.{Joins};
 ghost use Rattle.base_tables.specs.Runnable.{IsRunnable};
 ghost use Rattle.spec_world.specs.Worlds.{IsValidWorld};
 ghost use Rattle.cli_answers.specs.Courses.Courses.{RunGave, exit_of};
-ghost use Rattle.cli_refusals.specs.Ends.{EndsAt};
+ghost use Rattle.cli_refusals.specs.Ends.{EndWrites, EndsAt};
 ghost use Rattle.spec_program.specs.declared.course.Course.TheVariants as course;
 ghost use Rattle.cli_refusals.specs.Lent.Lent.{Stays, seen};
 ghost use Rattle.spec_program.specs.Output.{AreUncalled};
 ghost use Rattle.cli_answers.specs.Courses.Joined.{JoinGives, names_on};
 ghost use Rattle.text_trace.specs.Traces.{CanRun, state_in};
+ghost use Rattle.spec_outside.specs.Writes.{Writes};
+ghost use Rattle.spec_program.specs.Answers.{WritesAt};
 
 use base_outside::{Clock, Shelf, Sink};
 use base_texts::{NoMemory, Stop};
@@ -63,6 +65,7 @@ fn run_summed<S: Shelf, K: Sink, C: Clock, D: Drivers>(
         (seen K.written K.faults C.moments D.states outside.new) }
     ensures unread { outside.new.shelf.now ≡ outside.old.shelf.now }
     ensures stays { Stays S.faults K.faults D.states outside.old outside.new }
+    ensures writes { Writes K.write_gives result outside.old.out.now outside.new.out.now }
 {
     let (line, ended) = run_load(alloc, leaves, runs, events, outside.drivers)?;
     write_line(outside.out, line.as_slice())?;
@@ -90,6 +93,7 @@ fn run<S: Shelf, K: Sink, C: Clock, D: Drivers>(
         (seen K.written K.faults C.moments D.states outside.new) }
     ensures unread { outside.new.shelf.now ≡ outside.old.shelf.now }
     ensures stays { Stays S.faults K.faults D.states outside.old outside.new }
+    ensures writes { WritesAt K.write_gives result outside.old.out.now outside.new.out.now }
 {
     match course {
         Course::Script => {
@@ -185,6 +189,7 @@ pub fn join_and_run<S: Shelf, K: Sink, C: Clock, D: Drivers>(
         (seen K.written K.faults C.moments D.states outside.new) }
     ensures unread { outside.new.shelf.now ≡ outside.old.shelf.now }
     ensures stays { Stays S.faults K.faults D.states outside.old outside.new }
+    ensures writes { EndWrites K.write_gives result outside.old.out.now outside.new.out.now }
 {
     let slots = slots_of(alloc, tree)?;
     let names = names_on(alloc, course, tree, world, &slots)?;

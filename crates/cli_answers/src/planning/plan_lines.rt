@@ -7,6 +7,8 @@ ghost use Rattle.spec_outside.specs.Appending.{Appended, AppendedPrefix};
 ghost use Rattle.spec_outside.specs.Counts.{Rose};
 ghost use Rattle.spec_plan.specs.PlanLines.{end_line, end_words, listed, step_line};
 ghost use Rattle.spec_output.specs.NoNames.{no_names};
+ghost use Rattle.spec_outside.specs.Writes.{Writes};
+ghost use Rattle.spec_program.specs.Answers.{WritesAt};
 
 use base_outside::Sink;
 use base_texts::{Name, NoMemory};
@@ -135,12 +137,13 @@ fn end_line(alloc: Global, end: &End) -> Result<Vec<u8>, NoMemory>
 
 /// Writes a line for each step. After a stop a prefix of the lines was written.
 /// `TextStop::WriteFault` comes only where the sink's count of failures rose in this call.
-#[tactic(auto, using(base_outside::proofs::Appends::appending))]
+#[tactic(auto, using(base_outside::proofs::Appends::appending, base_outside::proofs::Writings::writing))]
 fn write_steps<K: Sink>(alloc: Global, steps: &[Step], out: &mut K) -> Result<(), TextStop>
     ensures whole { OnOk result (Appended (K.written out.old) (K.written out.new) (concat (map step_line steps.now))) }
     ensures prefix { AppendedPrefix (K.written out.old) (K.written out.new) (concat (map step_line steps.now)) }
     ensures failed { IsErrOf result TextStop.WriteFault → Rose (K.faults out.old) (K.faults out.new) }
     ensures count { K.faults out.old ≤ K.faults out.new }
+    ensures writes { Writes K.write_gives result out.old out.new }
 {
     let mut line = Vec::new(alloc);
     for step in steps {
@@ -154,12 +157,13 @@ fn write_steps<K: Sink>(alloc: Global, steps: &[Step], out: &mut K) -> Result<()
 /// Writes the tree of an end that reaches the goals, and nothing of any other. After a stop a prefix
 /// of the lines was written. `TextStop::WriteFault` comes only where the sink's count of failures
 /// rose in this call.
-#[tactic(auto, using(base_outside::proofs::Appends::appending))]
+#[tactic(auto, using(base_outside::proofs::Appends::appending, base_outside::proofs::Writings::writing))]
 fn write_reached<K: Sink>(alloc: Global, end: &End, out: &mut K) -> Result<(), TextStop>
     ensures whole { OnOk result (Appended (K.written out.old) (K.written out.new) (concat (reached_lines end.now))) }
     ensures prefix { AppendedPrefix (K.written out.old) (K.written out.new) (concat (reached_lines end.now)) }
     ensures failed { IsErrOf result TextStop.WriteFault → Rose (K.faults out.old) (K.faults out.new) }
     ensures count { K.faults out.old ≤ K.faults out.new }
+    ensures writes { Writes K.write_gives result out.old out.new }
 {
     match end {
         End::Reached { tree, .. } => write_tree(alloc, out, tree),
@@ -169,13 +173,14 @@ fn write_reached<K: Sink>(alloc: Global, end: &End, out: &mut K) -> Result<(), T
 
 /// Writes the line of an end, and then its tree. After a stop a prefix was written.
 /// `TextStop::WriteFault` comes only where the sink's count of failures rose in this call.
-#[tactic(auto, using(base_outside::proofs::Appends::appending))]
+#[tactic(auto, using(base_outside::proofs::Appends::appending, base_outside::proofs::Writings::writing))]
 fn write_end<K: Sink>(alloc: Global, end: &End, out: &mut K) -> Result<(), TextStop>
     ensures whole { OnOk result
         (Appended (K.written out.old) (K.written out.new) (end_line no_names end.now ++ concat (reached_lines end.now))) }
     ensures prefix { AppendedPrefix (K.written out.old) (K.written out.new) (end_line no_names end.now ++ concat (reached_lines end.now)) }
     ensures failed { IsErrOf result TextStop.WriteFault → Rose (K.faults out.old) (K.faults out.new) }
     ensures count { K.faults out.old ≤ K.faults out.new }
+    ensures writes { Writes K.write_gives result out.old out.new }
 {
     let line = end_line(alloc, end)?;
     write_line(out, line.as_slice())?;
@@ -185,12 +190,13 @@ fn write_end<K: Sink>(alloc: Global, end: &End, out: &mut K) -> Result<(), TextS
 
 /// Writes the steps of a plan and its end. After a stop a prefix was written.
 /// `TextStop::WriteFault` comes only where the sink's count of failures rose in this call.
-#[tactic(auto, using(base_outside::proofs::Appends::appending))]
+#[tactic(auto, using(base_outside::proofs::Appends::appending, base_outside::proofs::Writings::writing))]
 fn write_plan<K: Sink>(alloc: Global, planned: &PlanEnd, out: &mut K) -> Result<(), TextStop>
     ensures whole { OnOk result (Appended (K.written out.old) (K.written out.new) (plan_bytes planned.now)) }
     ensures prefix { AppendedPrefix (K.written out.old) (K.written out.new) (plan_bytes planned.now) }
     ensures failed { IsErrOf result TextStop.WriteFault → Rose (K.faults out.old) (K.faults out.new) }
     ensures count { K.faults out.old ≤ K.faults out.new }
+    ensures writes { Writes K.write_gives result out.old out.new }
 {
     write_steps(alloc, planned.steps.list(), out)?;
     write_end(alloc, &planned.end, out)?;
@@ -213,6 +219,7 @@ pub fn print_plan<K: Sink>(alloc: Global, planned: &PlanEnd, out: &mut K) -> Exi
     ensures printed { PlanPrinted planned.now result
         (K.written out.old) (K.faults out.old) (K.written out.new) (K.faults out.new) }
     ensures count { K.faults out.old ≤ K.faults out.new }
+    ensures writes { WritesAt K.write_gives result out.old out.new }
 {
     match write_plan(alloc, planned, out) {
         Ok(()) => exit_of(&planned.end),

@@ -2,7 +2,7 @@ ghost use Rattle.std.specs.Prelude.{◌≡◌, ◌≢◌, Ok, Some, None, MatchO
 ghost use Rattle.spec_run.specs.declared.join_fault.JoinFault.TheVariants as join;
 ghost use Rattle.spec_run.specs.Drivers.{NothingHeld};
 ghost use Rattle.spec_world.specs.Worlds.{IsValidWorld};
-ghost use Rattle.cli_refusals.specs.Ends.{EndsAt};
+ghost use Rattle.cli_refusals.specs.Ends.{EndWrites, EndsAt};
 ghost use Rattle.cli_refusals.specs.Lent.Lent.{Stays, seen};
 ghost use Rattle.spec_program.specs.declared.exit.Exit.{Exit as Given};
 ghost use Rattle.spec_program.specs.declared.exit.Exit.TheVariants as exit;
@@ -57,6 +57,7 @@ pub fn plan_and_print<S: Shelf, K: Sink, C: Clock, D: Drivers>(
         IsPlan world.now limits.now (D.states outside.old.drivers.now) (D.states outside.new.drivers.now) planned }
     ensures unread { outside.new.shelf.now ≡ outside.old.shelf.now }
     ensures stays { Stays S.faults K.faults D.states outside.old outside.new }
+    ensures writes { EndWrites K.write_gives result outside.old.out.now outside.new.out.now }
 {
     if world.goals.list().is_empty() {
         return Err(Refusal::NoGoal);

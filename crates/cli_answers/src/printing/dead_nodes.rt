@@ -7,6 +7,7 @@ ghost use Rattle.spec_program.specs.Printed.{dead_count_line, dead_line, printed
 ghost use Rattle.spec_program.specs.declared.print.Print.TheVariants as print;
 ghost use Rattle.spec_outside.specs.Appending.{Appended, AppendedPrefix};
 ghost use Rattle.spec_outside.specs.Counts.{Rose};
+ghost use Rattle.spec_outside.specs.Writes.{Writes};
 
 use crate::printing::nodes::{add_ids, id_of};
 use base_outside::Sink;
@@ -31,7 +32,7 @@ fn put_dead(line: &mut Vec<u8>, ids: &[&Name], uid: u32) -> Result<(), NoMemory>
 /// Writes a line for each of these dead nodes, of nodes with these IDs. After a stop a prefix of the
 /// lines was written. `TextStop::WriteFault` comes only where the sink's count of failures rose in
 /// this call.
-#[tactic(auto, using(base_outside::proofs::Appends::appending))]
+#[tactic(auto, using(base_outside::proofs::Appends::appending, base_outside::proofs::Writings::writing))]
 fn write_each<K: Sink>(
     alloc: Global,
     ids: &[&Name],
@@ -43,6 +44,7 @@ fn write_each<K: Sink>(
     ensures prefix { AppendedPrefix (K.written out.old) (K.written out.new) (concat (map (dead_line (ids_seen ids.now)) uids.now)) }
     ensures failed { IsErrOf result TextStop.WriteFault → Rose (K.faults out.old) (K.faults out.new) }
     ensures count { K.faults out.old ≤ K.faults out.new }
+    ensures writes { Writes K.write_gives result out.old out.new }
 {
     let mut line = Vec::new(alloc);
     for uid in uids {
@@ -70,13 +72,14 @@ fn count_line(alloc: Global, tree: &Tree, uids: &[u32]) -> Result<Vec<u8>, NoMem
 
 /// Writes a line for each dead node of the tree, and how many they are. `TextStop::WriteFault` comes
 /// only where the sink's count of failures rose in this call.
-#[tactic(auto, using(base_outside::proofs::Appends::appending))]
+#[tactic(auto, using(base_outside::proofs::Appends::appending, base_outside::proofs::Writings::writing))]
 pub fn write_dead<K: Sink>(alloc: Global, tree: &Tree, out: &mut K) -> Result<(), TextStop>
     requires { IsValid tree.now }
     ensures whole { OnOk result (Appended (K.written out.old) (K.written out.new) (printed_bytes print.Dead tree.now)) }
     ensures prefix { AppendedPrefix (K.written out.old) (K.written out.new) (printed_bytes print.Dead tree.now) }
     ensures failed { IsErrOf result TextStop.WriteFault → Rose (K.faults out.old) (K.faults out.new) }
     ensures count { K.faults out.old ≤ K.faults out.new }
+    ensures writes { Writes K.write_gives result out.old out.new }
 {
     let uids = dead(alloc, tree)?;
     let mut ids = Vec::new(alloc);

@@ -10,6 +10,8 @@ ghost use Rattle.spec_program.specs.Refused.{no_leaf};
 ghost use Rattle.spec_tree.specs.Trees.{IsValid};
 ghost use Rattle.tree_exclusive.specs.Runs.{AreApart};
 ghost use Rattle.tree_exclusive.specs.Steps.{IsFound};
+ghost use Rattle.spec_outside.specs.Writes.{Writes};
+ghost use Rattle.spec_program.specs.Answers.{WritesAt};
 
 use base_outside::Sink;
 use base_texts::{Name, NoMemory};
@@ -46,12 +48,13 @@ fn put_pair(line: &mut Vec<u8>, pair: Pair) -> Result<(), NoMemory>
 
 /// Writes a line for each of these pairs. After a stop a prefix of the lines was written.
 /// `TextStop::WriteFault` comes only where the sink's count of failures rose in this call.
-#[tactic(auto, using(base_outside::proofs::Appends::appending))]
+#[tactic(auto, using(base_outside::proofs::Appends::appending, base_outside::proofs::Writings::writing))]
 fn write_each<K: Sink>(alloc: Global, pairs: &[Pair], out: &mut K) -> Result<(), TextStop>
     ensures whole { OnOk result (Appended (K.written out.old) (K.written out.new) (concat (map pair_line pairs.now))) }
     ensures prefix { AppendedPrefix (K.written out.old) (K.written out.new) (concat (map pair_line pairs.now)) }
     ensures failed { IsErrOf result TextStop.WriteFault → Rose (K.faults out.old) (K.faults out.new) }
     ensures count { K.faults out.old ≤ K.faults out.new }
+    ensures writes { Writes K.write_gives result out.old out.new }
 {
     let mut line = Vec::new(alloc);
     for pair in pairs {
@@ -75,7 +78,7 @@ fn count_line(alloc: Global, count: u64) -> Result<Vec<u8>, NoMemory>
 
 /// Writes the lines of these pairs, which are the first of so many, and how many there are.
 /// `TextStop::WriteFault` comes only where the sink's count of failures rose in this call.
-#[tactic(auto, using(base_outside::proofs::Appends::appending))]
+#[tactic(auto, using(base_outside::proofs::Appends::appending, base_outside::proofs::Writings::writing))]
 fn write_pairs<K: Sink>(
     alloc: Global,
     pairs: &[Pair],
@@ -86,6 +89,7 @@ fn write_pairs<K: Sink>(
     ensures prefix { AppendedPrefix (K.written out.old) (K.written out.new) (concat (map pair_line pairs.now) ++ pairs_line count) }
     ensures failed { IsErrOf result TextStop.WriteFault → Rose (K.faults out.old) (K.faults out.new) }
     ensures count { K.faults out.old ≤ K.faults out.new }
+    ensures writes { Writes K.write_gives result out.old out.new }
 {
     write_each(alloc, pairs, out)?;
     let line = count_line(alloc, count)?;
@@ -104,6 +108,7 @@ fn write_found<K: Sink>(alloc: Global, found: &Found, out: &mut K) -> Result<Exi
         AppendedPrefix (K.written out.old) (K.written out.new) (pairs_output pairs).bytes }
     ensures failed { IsErrOf result TextStop.WriteFault → Rose (K.faults out.old) (K.faults out.new) }
     ensures count { K.faults out.old ≤ K.faults out.new }
+    ensures writes { Writes K.write_gives result out.old out.new }
 {
     if found.count == 0 {
         write_line(out, b"exclusive\n")?;
@@ -127,13 +132,14 @@ fn no_leaf_line(alloc: Global, id: &Name) -> Result<Vec<u8>, NoMemory>
 
 /// Writes the line that refuses an ID that no leaf of the tree has, and gives the exit that goes with it.
 /// `TextStop::WriteFault` comes only where the sink's count of failures rose in this call.
-#[tactic(auto, using(base_outside::proofs::Appends::appending))]
+#[tactic(auto, using(base_outside::proofs::Appends::appending, base_outside::proofs::Writings::writing))]
 fn write_no_leaf<K: Sink>(alloc: Global, id: &Name, out: &mut K) -> Result<Exit, TextStop>
     ensures exit { IfOk result (λ exit. exit ≡ (no_leaf id.now).exit) }
     ensures whole { OnOk result (Appended (K.written out.old) (K.written out.new) (no_leaf id.now).bytes) }
     ensures prefix { AppendedPrefix (K.written out.old) (K.written out.new) (no_leaf id.now).bytes }
     ensures failed { IsErrOf result TextStop.WriteFault → Rose (K.faults out.old) (K.faults out.new) }
     ensures count { K.faults out.old ≤ K.faults out.new }
+    ensures writes { Writes K.write_gives result out.old out.new }
 {
     let line = no_leaf_line(alloc, id)?;
     write_line(out, line.as_slice())?;
@@ -143,7 +149,7 @@ fn write_no_leaf<K: Sink>(alloc: Global, id: &Name, out: &mut K) -> Result<Exit,
 /// Writes which leaves with these IDs may be held together, or that no leaf has one of them, and gives the
 /// exit that goes with it. `TextStop::WriteFault` comes only where the sink's count of failures rose in
 /// this call.
-#[tactic(auto, using(base_outside::proofs::Appends::appending))]
+#[tactic(auto, using(base_outside::proofs::Appends::appending, base_outside::proofs::Writings::writing))]
 fn write_exclusive<K: Sink>(
     alloc: Global,
     tree: &Tree,
@@ -156,6 +162,7 @@ fn write_exclusive<K: Sink>(
     ensures prefix { AppendedPrefix (K.written out.old) (K.written out.new) (exclusive_output ids.now (Ok tree.now)).bytes }
     ensures failed { IsErrOf result TextStop.WriteFault → Rose (K.faults out.old) (K.faults out.new) }
     ensures count { K.faults out.old ≤ K.faults out.new }
+    ensures writes { Writes K.write_gives result out.old out.new }
 {
     if let Some(id) = missing_leaf(tree, ids) {
         return write_no_leaf(alloc, id, out);
@@ -173,6 +180,7 @@ pub fn print_exclusive<K: Sink>(alloc: Global, tree: &Tree, ids: &[Name], out: &
     ensures printed { Printed (exclusive_output ids.now (Ok tree.now)) result
         (K.written out.old) (K.faults out.old) (K.written out.new) (K.faults out.new) }
     ensures count { K.faults out.old ≤ K.faults out.new }
+    ensures writes { WritesAt K.write_gives result out.old out.new }
     ensures apart { result ≡ Exit.Done → AreApart ids.now tree.now [] }
 {
     no_run_holds_exclusive_leaves_together();

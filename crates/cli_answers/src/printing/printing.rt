@@ -8,6 +8,8 @@ ghost use Rattle.spec_tree.specs.Terms.{node_count, work_of};
 ghost use Rattle.spec_tree.specs.Trees.{IsValid};
 ghost use Rattle.spec_outside.specs.Appending.{Appended, AppendedPrefix};
 ghost use Rattle.spec_outside.specs.Counts.{Rose};
+ghost use Rattle.spec_outside.specs.Writes.{Writes};
+ghost use Rattle.spec_program.specs.Answers.{WritesAt};
 
 use crate::printing::dead_nodes::write_dead;
 use base_outside::Sink;
@@ -36,7 +38,7 @@ fn count_line(alloc: Global, tree: &Tree) -> Result<Vec<u8>, NoMemory>
 
 /// Writes the tree and then its counts. `TextStop::WriteFault` comes only where the sink's count of
 /// failures rose in this call.
-#[tactic(auto, using(base_outside::proofs::Appends::appending))]
+#[tactic(auto, using(base_outside::proofs::Appends::appending, base_outside::proofs::Writings::writing))]
 fn write_check<K: Sink>(alloc: Global, tree: &Tree, out: &mut K) -> Result<(), TextStop>
     requires nodes { node_count tree.now.term ≤ most_nodes }
     requires work { work_of tree.now.term ≤ most_work }
@@ -46,6 +48,7 @@ fn write_check<K: Sink>(alloc: Global, tree: &Tree, out: &mut K) -> Result<(), T
         (K.written out.old) (K.written out.new) (concat (tree_lines tree.now) ++ count_line tree.now) }
     ensures failed { IsErrOf result TextStop.WriteFault → Rose (K.faults out.old) (K.faults out.new) }
     ensures count { K.faults out.old ≤ K.faults out.new }
+    ensures writes { Writes K.write_gives result out.old out.new }
 {
     write_tree(alloc, out, tree)?;
     let line = count_line(alloc, tree)?;
@@ -66,6 +69,7 @@ fn write_printed<K: Sink>(
     ensures prefix { AppendedPrefix (K.written out.old) (K.written out.new) (printed_bytes print tree.now) }
     ensures failed { IsErrOf result TextStop.WriteFault → Rose (K.faults out.old) (K.faults out.new) }
     ensures count { K.faults out.old ≤ K.faults out.new }
+    ensures writes { Writes K.write_gives result out.old out.new }
 {
     match print {
         Print::Whole => write_check(alloc, tree, out),
@@ -79,6 +83,7 @@ pub fn print_tree<K: Sink>(alloc: Global, tree: &Tree, print: Print, out: &mut K
     ensures printed { Printed (print_output print (Ok tree.now)) result
         (K.written out.old) (K.faults out.old) (K.written out.new) (K.faults out.new) }
     ensures count { K.faults out.old ≤ K.faults out.new }
+    ensures writes { WritesAt K.write_gives result out.old out.new }
 {
     match write_printed(alloc, tree, print, out) {
         Ok(()) => Exit::Done,
@@ -94,6 +99,7 @@ pub fn print_made<K: Sink>(alloc: Global, tree: &Tree, out: &mut K) -> Exit
     ensures printed { Printed (print_made (Ok tree.now)) result
         (K.written out.old) (K.faults out.old) (K.written out.new) (K.faults out.new) }
     ensures count { K.faults out.old ≤ K.faults out.new }
+    ensures writes { WritesAt K.write_gives result out.old out.new }
 {
     match write_check(alloc, tree, out) {
         Ok(()) => Exit::Done,

@@ -30,3 +30,6 @@ pub returns-clause-reads : goal.returns-clause-reads
 returns-clause-reads g c =
     rw c.in-Some.ensures.command (unread_answered g.S.Shelf.read_gives (g.S.Shelf.holds c.args.outside.now.shelf.now) (command_seen c.in-Some.command) _ _ _ c.in-Err.refusal _ _ _ _
     c.in-Err.ensures.unread c.write_refusal-in-Err.ensures.refused)
+
+pub returns-in-Ok-clause-writes : goal.returns-in-Ok-clause-writes
+returns-in-Ok-clause-writes g c = rw c.in-Err-answer.ensures.writes at c.write_refusal-in-Err-answer.ensures.writes

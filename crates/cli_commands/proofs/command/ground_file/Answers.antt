@@ -1,5 +1,8 @@
 use Rattle.std.proofs.lemmas.Result.{err_from_is_err_and}
 use Rattle.cli_commands.proofs.Grounds.{ground_stopped, ground_written}
+use Rattle.std.proofs.Common.{refl}
+use Rattle.cli_refusals.proofs.Writings.{end_refused}
+use Rattle.cli_commands.proofs.GroundLines.{ground_lines}
 use Rattle.cli_commands.proofs.command.ground_file.Goals as goal
 
 pub returns-in_err-ground-clause-ends : goal.returns-in_err-ground-clause-ends
@@ -9,3 +12,9 @@ returns-in_err-ground-clause-ends g c =
 
 pub returns-clause-ends : goal.returns-clause-ends
 returns-clause-ends g c = ground_written c.args.bytes.now c.requires.bytes _ _ _ _ _ c.in_ok-ground.ensures c.print_ground.ensures.printed
+
+pub returns-in_err-ground-clause-writes : goal.returns-in_err-ground-clause-writes
+returns-in_err-ground-clause-writes g c = end_refused g.K.Sink.write_gives c.from_residual.result _ _ c.from_residual.ensures.0 refl
+
+pub returns-clause-writes : goal.returns-clause-writes
+returns-clause-writes g c = c.print_ground.ensures.writes (ground_lines c.args.bytes.now _ c.in_ok-ground.ensures)

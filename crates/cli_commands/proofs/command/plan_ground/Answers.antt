@@ -1,5 +1,7 @@
 use Rattle.std.proofs.lemmas.Result.{err_from_is_err_and}
 use Rattle.cli_commands.proofs.Grounds.{plan_of_text, plan_stopped_at_file, plan_stopped_at_text}
+use Rattle.std.proofs.Common.{refl}
+use Rattle.cli_refusals.proofs.Writings.{end_refused}
 use Rattle.cli_commands.proofs.command.plan_ground.Goals as goal
 
 pub returns-in_err-ground-clause-ends : goal.returns-in_err-ground-clause-ends
@@ -15,3 +17,9 @@ returns-in_err-world-clause-ends g c =
 pub returns-clause-ends : goal.returns-clause-ends
 returns-clause-ends g c =
     plan_of_text c.args.limits.now c.args.bytes.now c.requires.bytes _ _ _ _ _ c.in_ok-ground.ensures c.in_ok-world.ensures.reads c.plan_and_print-ended.ensures.ends
+
+pub returns-in_err-ground-clause-writes : goal.returns-in_err-ground-clause-writes
+returns-in_err-ground-clause-writes g c = end_refused g.K.Sink.write_gives c.from_residual.result _ _ c.from_residual.ensures.0 refl
+
+pub returns-in_err-world-clause-writes : goal.returns-in_err-world-clause-writes
+returns-in_err-world-clause-writes g c = end_refused g.K.Sink.write_gives c.from_residual-in_err-world.result _ _ c.from_residual-in_err-world.ensures.0 refl

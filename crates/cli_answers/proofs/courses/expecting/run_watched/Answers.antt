@@ -7,6 +7,8 @@ use Rattle.text_trace.specs.Traces.{trace_of}
 use Rattle.text_trace.proofs.Cuts.{cut_here}
 use Rattle.cli_answers.proofs.AboutCourses.Expecting.{expected_gave, expected_stopped, no_lines}
 use Rattle.cli_answers.proofs.AboutCourses.Runs.{all_come}
+use Rattle.base_outside.proofs.Writings.{Writes-none, Writes-stopped, lines-equal}
+use Rattle.cli_answers.proofs.AboutCourses.FaultLines.{told_lines}
 use Rattle.cli_answers.proofs.courses.expecting.run_watched.Goals as goal
 
 pub returns-in_err-watching-clause-gave : goal.returns-in_err-watching-clause-gave
@@ -63,3 +65,15 @@ returns-clause-gave g c =
     expected_gave g.wanted.of c.args.runs (g.D.Drivers.states c.args.outside.now.drivers.now) (g.D.Drivers.states c.run_expected.new.drivers) q.1.1.1.1.1.1.0 g.wanted.expected events listed
     (g.K.Sink.written c.args.outside.now.out.now) (g.K.Sink.written c.write_line.new.out) (g.K.Sink.faults c.args.outside.now.out.now) (g.K.Sink.faults c.write_line.new.out) (g.C.Clock.moments c.args.outside.now.clock.now)
     c.in_ok-lines.lines.items c.in_ok-lines.ended c.in_ok-lines.ensures.whole (rw c.as_slice.ensures.value at c.in_ok-write_line.ensures.whole)
+
+pub returns-in_err-watching-clause-writes : goal.returns-in_err-watching-clause-writes
+returns-in_err-watching-clause-writes g c = Writes-none g.K.Sink.write_gives c.from_residual.result _
+
+pub returns-in_err-lines-clause-writes : goal.returns-in_err-lines-clause-writes
+returns-in_err-lines-clause-writes g c = Writes-none g.K.Sink.write_gives c.from_residual-in_err-lines.result _
+
+pub returns-in_err-write_line-clause-writes : goal.returns-in_err-write_line-clause-writes
+returns-in_err-write_line-clause-writes g c = Writes-stopped g.K.Sink.write_gives c.from_residual-in_err-write_line.result c.from_residual-in_err-write_line.ensures.0 _ _ (c.in_err-write_line.ensures.writes (lines-equal _ _ (c.as_slice.ensures.value ∙ c.in_ok-lines.ensures.whole.text) (told_lines g.wanted.of g.wanted.expected c.list-events.result.now _)))
+
+pub returns-clause-writes : goal.returns-clause-writes
+returns-clause-writes g c = c.in_ok-write_line.ensures.writes (lines-equal _ _ (c.as_slice.ensures.value ∙ c.in_ok-lines.ensures.whole.text) (told_lines g.wanted.of g.wanted.expected c.list-events.result.now _))

@@ -8,6 +8,7 @@ use Rattle.spec_program.specs.Output.{AreUncalled}
 use Rattle.cli_answers.specs.Courses.Joined.{JoinGives}
 use Rattle.cli_refusals.proofs.Ends.{refused_ends}
 use Rattle.cli_answers.proofs.AboutCourses.Runs.{all_told, join_stopped, joined_ends}
+use Rattle.cli_refusals.proofs.Writings.{end_refused}
 use Rattle.cli_answers.proofs.courses.join.join_and_run.Goals as goal
 
 pub returns-in_err-slots-clause-ends : goal.returns-in_err-slots-clause-ends
@@ -65,3 +66,12 @@ run-requires g c κs within =
         ),
       ),
     )
+
+pub returns-in_err-slots-clause-writes : goal.returns-in_err-slots-clause-writes
+returns-in_err-slots-clause-writes g c = end_refused g.K.Sink.write_gives c.from_residual.result _ _ c.from_residual.ensures.0 refl
+
+pub returns-in_err-names-clause-writes : goal.returns-in_err-names-clause-writes
+returns-in_err-names-clause-writes g c = end_refused g.K.Sink.write_gives c.from_residual-in_err-names.result _ _ c.from_residual-in_err-names.ensures.0 refl
+
+pub returns-in_err-runs-clause-writes : goal.returns-in_err-runs-clause-writes
+returns-in_err-runs-clause-writes g c = end_refused g.K.Sink.write_gives c.from_residual-in_err-runs.result _ _ c.from_residual-in_err-runs.ensures.0 refl

@@ -1,6 +1,10 @@
-use Rattle.std.proofs.Common.{ap, Err}
+use Rattle.std.proofs.Common.{ap, length, Err}
 use Rattle.std.proofs.lemmas.Result.{err_from_is_err_and}
 use Rattle.cli_answers.proofs.AboutCourses.Runs.{line_gave, line_stopped, no_line}
+use Rattle.std.proofs.Common.{◌∙◌}
+use Rattle.base_outside.proofs.Writings.{Writes-none, Writes-stopped, lines-equal}
+use Rattle.text_trace.specs.Traces.{trace_of}
+use Rattle.cli_answers.proofs.LineEnds.{load_lines}
 use Rattle.cli_answers.proofs.courses.join.run_summed.Goals as goal
 
 pub returns-in_err-line-clause-gave : goal.returns-in_err-line-clause-gave
@@ -19,3 +23,12 @@ pub returns-clause-gave : goal.returns-clause-gave
 returns-clause-gave g c = λ before begun.
     line_gave g.of c.args.runs _ _ c.requires.1.1.1.1.1.0 before begun c.args.leaves c.args.events.now c.requires.1.1.1.1.1.1.0 _ c.in_ok-line.ended c.in_ok-line.line.items _ _ _ _
     c.in_ok-line.ensures.whole (rw c.as_slice.ensures.value at c.in_ok-write_line.ensures.whole)
+
+pub returns-in_err-line-clause-writes : goal.returns-in_err-line-clause-writes
+returns-in_err-line-clause-writes g c = Writes-none g.K.Sink.write_gives c.from_residual.result _
+
+pub returns-in_err-write_line-clause-writes : goal.returns-in_err-write_line-clause-writes
+returns-in_err-write_line-clause-writes g c = Writes-stopped g.K.Sink.write_gives c.from_residual-in_err-write_line.result c.from_residual-in_err-write_line.ensures.0 _ _ (c.in_err-write_line.ensures.writes (lines-equal _ _ (c.as_slice.ensures.value ∙ c.in_ok-line.ensures.whole.told) (load_lines c.args.leaves g.of.tree (length c.args.events.now) (trace_of g.of (g.D.Drivers.states c.args.outside.now.drivers.now) c.args.runs c.args.events.now))))
+
+pub returns-clause-writes : goal.returns-clause-writes
+returns-clause-writes g c = c.in_ok-write_line.ensures.writes (lines-equal _ _ (c.as_slice.ensures.value ∙ c.in_ok-line.ensures.whole.told) (load_lines c.args.leaves g.of.tree (length c.args.events.now) (trace_of g.of (g.D.Drivers.states c.args.outside.now.drivers.now) c.args.runs c.args.events.now)))

@@ -3,6 +3,9 @@ use Rattle.spec_outside.specs.Appending.{Appended, AppendedPrefix}
 use Rattle.spec_plan.specs.declared.ending.Step.{Step}
 use Rattle.spec_plan.specs.PlanLines.{step_line}
 use Rattle.text_lines.proofs.Lines.{Appended-map_more, AppendedPrefix-map_next, AppendedPrefix-map_some, alone}
+use Rattle.base_outside.proofs.Appends.{Appended-nil}
+use Rattle.base_outside.proofs.Writings.{Writes-after, Writes-lines, Writes-stopped, Wrote-both, Wrote-none, lines-equal}
+use Rattle.cli_answers.proofs.LineEnds.{step_lines}
 use Rattle.cli_answers.proofs.planning.plan_lines.write_steps.Goals as goal
 
 pub returns-in_err-put_step-clause-prefix : goal.returns-in_err-put_step-clause-prefix
@@ -23,4 +26,17 @@ loop-step-preserved g c =
     record {
       text = Appended-map_more step_line c.args.steps.now c.loop-step.step-index c.step-item.result _ _ _ within c.loop-step.invariant.text here;
       count = omega arith;
+      writes = Wrote-both g.K.Sink.write_gives _ _ _ c.loop-step.invariant.writes (c.in_ok-write_line.ensures.writes (lines-equal _ _ (c.as_slice.ensures.value ∙ alone _ c.clear.ensures.items c.in_ok-put_step.ensures) (step_lines _)));
     }
+
+pub loop-step-init : goal.loop-step-init
+loop-step-init g c = record { text = Appended-nil _; count = omega arith; writes = Wrote-none g.K.Sink.write_gives _ }
+
+pub returns-in_err-put_step-clause-writes : goal.returns-in_err-put_step-clause-writes
+returns-in_err-put_step-clause-writes g c = Writes-lines g.K.Sink.write_gives c.from_residual.result _ _ c.loop-step.invariant.writes
+
+pub returns-in_err-write_line-clause-writes : goal.returns-in_err-write_line-clause-writes
+returns-in_err-write_line-clause-writes g c =
+    let lines = lines-equal _ _ (c.as_slice.ensures.value ∙ alone _ c.clear.ensures.items c.in_ok-put_step.ensures) (step_lines _) in
+    Writes-after g.K.Sink.write_gives c.from_residual-in_err-write_line.result _ _ _ c.loop-step.invariant.writes
+    (Writes-stopped g.K.Sink.write_gives c.from_residual-in_err-write_line.result c.from_residual-in_err-write_line.ensures.0 _ _ (c.in_err-write_line.ensures.writes lines))

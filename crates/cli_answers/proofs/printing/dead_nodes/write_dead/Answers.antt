@@ -7,6 +7,8 @@ use Rattle.spec_tree.specs.declared.term.Term.{Term}
 use Rattle.spec_tree.specs.declared.term.Tree.{Tree}
 use Rattle.base_outside.proofs.Appends.{Appended-trans, AppendedPrefix-after, AppendedPrefix-longer, AppendedPrefix-whole}
 use Rattle.spec_program.specs.Printed.{dead_count_line, dead_line, node_ids}
+use Rattle.base_outside.proofs.Writings.{Writes-after, Writes-lines, Writes-none, Writes-stopped, Wrote-both, lines-equal}
+use Rattle.cli_answers.proofs.LineEnds.{dead_count_lines}
 use Rattle.cli_answers.proofs.printing.dead_nodes.write_dead.Goals as goal
 
 -- the lines of all dead nodes
@@ -48,3 +50,23 @@ returns-clause-whole g c =
 
 pub returns-clause-prefix : goal.returns-clause-prefix
 returns-clause-prefix g c = AppendedPrefix-whole _ _ _ (returns-clause-whole g c)
+
+pub returns-in_err-uids-clause-writes : goal.returns-in_err-uids-clause-writes
+returns-in_err-uids-clause-writes g c = Writes-none g.K.Sink.write_gives c.from_residual.result _
+
+pub returns-in_err-add_ids-clause-writes : goal.returns-in_err-add_ids-clause-writes
+returns-in_err-add_ids-clause-writes g c = Writes-none g.K.Sink.write_gives c.from_residual-in_err-add_ids.result _
+
+pub returns-in_err-write_each-clause-writes : goal.returns-in_err-write_each-clause-writes
+returns-in_err-write_each-clause-writes g c = Writes-stopped g.K.Sink.write_gives c.from_residual-in_err-write_each.result c.from_residual-in_err-write_each.ensures.0 _ _ c.in_err-write_each.ensures.writes
+
+pub returns-in_err-line-clause-writes : goal.returns-in_err-line-clause-writes
+returns-in_err-line-clause-writes g c = Writes-lines g.K.Sink.write_gives c.from_residual-in_err-line.result _ _ c.in_ok-write_each.ensures.writes
+
+pub returns-in_err-write_line-clause-writes : goal.returns-in_err-write_line-clause-writes
+returns-in_err-write_line-clause-writes g c =
+    Writes-after g.K.Sink.write_gives c.from_residual-in_err-write_line.result _ _ _ c.in_ok-write_each.ensures.writes
+    (Writes-stopped g.K.Sink.write_gives c.from_residual-in_err-write_line.result c.from_residual-in_err-write_line.ensures.0 _ _ (c.in_err-write_line.ensures.writes (lines-equal _ _ (c.as_slice-4.ensures.value ∙ c.in_ok-line.ensures) (dead_count_lines c.args.tree.now))))
+
+pub returns-clause-writes : goal.returns-clause-writes
+returns-clause-writes g c = Wrote-both g.K.Sink.write_gives _ _ _ c.in_ok-write_each.ensures.writes (c.in_ok-write_line.ensures.writes (lines-equal _ _ (c.as_slice-4.ensures.value ∙ c.in_ok-line.ensures) (dead_count_lines c.args.tree.now)))
