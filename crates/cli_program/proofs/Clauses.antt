@@ -12,7 +12,9 @@ use Rattle.spec_program.specs.declared.exit.Exit.TheVariants as exit
 use Rattle.spec_program.specs.declared.tree_fault.TreeFault.{TreeFault}
 use Rattle.spec_program.specs.declared.tree_fault.TreeFault.TheVariants as fault
 use Rattle.spec_program.specs.Answers.{Answers, AtMoments, DriversLeft, DriversWithin, Gave, IfTold, IsWhole, Side}
-use Rattle.spec_program.specs.Answered.{AreTold, ReadFailed, ToldIfNamed}
+use Rattle.spec_program.specs.Answered.{AnsweredAfter, AreTold, GaveOf, ReadFailed, ToldIfNamed}
+use Rattle.spec_program.specs.Reads.{AllRead, ReadsEnd, StoppedAt}
+use Rattle.spec_outside.specs.declared.shelf_fault.ShelfFault.TheVariants as shelf_fault
 use Rattle.cli_commands.specs.Answering.{CommandAnswered, FilesAnswered}
 use Rattle.cli_answers.proofs.AboutPlanning.Plans.{all_served}
 use Rattle.cli_program.proofs.PlanFiles.{PlanLaws, file_reads, tree_joins}
@@ -35,7 +37,7 @@ use Rattle.plan_search.specs.Written.{IsShort}
 use Rattle.spec_output.specs.NoNames.{no_names}
 use Rattle.spec_world.specs.Worlds.{IsValidWorld}
 use Rattle.std.specs.List.{AllByRecursion, concat}
-use Rattle.spec_program.specs.Files.{Contents, Named, world_alone}
+use Rattle.spec_program.specs.Files.{Contents, Named}
 use Rattle.spec_world_file.specs.declared.ground_fault.GroundFault.{GroundFault}
 use Rattle.spec_world_file.specs.GroundFile.{Grounded, MakesWorld, reads_ground, world_from}
 use Rattle.spec_expect.specs.declared.expect_fault.ExpectFault.{ExpectFault}
@@ -656,21 +658,15 @@ module _ (c : Command) (result : Exit) (shelf : Type 0) (IsUnread : File → Typ
 -- ---- Plans
 
 -- a plan was given whole, with Done, for a world that its file describes so
-module _ (laws : PlanLaws) (limits : Limits) (holds : Option (List ℕ → List ℕ)) (name : List ℕ) (Describes : List ℕ → World → Type 0) (a b : Side) where
-  abbrev pub Reaches : Type 0
-  Reaches = PlanReaches holds name Describes limits.period a b
-
-  -- the shelf tells these bytes
-  abbrev pub Tells : List ℕ → Type 0
-  Tells script = ToldIfNamed holds (Some name) (λ bytes. script ≡ bytes)
+module _ (laws : PlanLaws) (limits : Limits) (Describes : List ℕ → World → Type 0) (a b : Side) where
+  abbrev pub Reaches : List ℕ → Type 0
+  Reaches file = PlanReaches file Describes limits.period a b
 
   -- its end reaches the goals
-  by_end : (script : List ℕ) (world : World) (steps : List Step) (end : End) → Tells script → Describes script world → IsReached world limits end → StandsAlone end
+  by_end : (script : List ℕ) (world : World) (steps : List Step) (end : End) → Describes script world → IsReached world limits end → StandsAlone end
       → AllByRecursion IsNamedPlainly steps → JoinsWorld world a.drivers end → IsShort steps end
-      → plan_exit end ≡ exit.Done → Appended a.written b.written (concat (map step_line steps) ++ (end_line no_names end ++ concat (reached_lines end))) → Reaches
-  by_end script world steps (Reached tree tick) told described reached alone named joins short done written = record {
-    file = script;
-    told = told;
+      → plan_exit end ≡ exit.Done → Appended a.written b.written (concat (map step_line steps) ++ (end_line no_names end ++ concat (reached_lines end))) → Reaches script
+  by_end script world steps (Reached tree tick) described reached alone named joins short done written = record {
     world = world;
     described = described;
     steps = steps;
@@ -682,75 +678,73 @@ module _ (laws : PlanLaws) (limits : Limits) (holds : Option (List ℕ → List 
     joins = λ n. tree_joins world a.drivers tree tick limits.period n joins;
     reached = reached;
   }
-  by_end script world steps (NoTemplate failed) told described reached alone named joins short done written = cc
-  by_end script world steps (NoOrder action condition) told described reached alone named joins short done written = cc
-  by_end script world steps (Expansions n) told described reached alone named joins short done written = cc
-  by_end script world steps (StillRunning ticks) told described reached alone named joins short done written = cc
-  by_end script world steps (Faulted uid cause) told described reached alone named joins short done written = cc
+  by_end script world steps (NoTemplate failed) described reached alone named joins short done written = cc
+  by_end script world steps (NoOrder action condition) described reached alone named joins short done written = cc
+  by_end script world steps (Expansions n) described reached alone named joins short done written = cc
+  by_end script world steps (StillRunning ticks) described reached alone named joins short done written = cc
+  by_end script world steps (Faulted uid cause) described reached alone named joins short done written = cc
 
-  pub by_plan : AreInRange limits → (goals : List ℕ) (lack : Option JoinFault) (script : List ℕ) (world : World) (o : Output) → first_unserved a.drivers world.rows ≡ lack → Tells script → Describes script world
-      → PlannedOr (refusal_for goals lack) world limits a.drivers o → o.exit ≡ exit.Done → Appended a.written b.written o.bytes → Reaches
-  by_plan range [] lack script world o lacks told described p done written = let e : exit.World ≡ exit.Done = sym (ap (λ (z : Output). z.exit) p) ∙ done in cc
-  by_plan range (goal ∷ goals) (Some fault) script world o lacks told described p done written = let e : exit.World ≡ exit.Done = sym (ap (λ (z : Output). z.exit) p) ∙ done in cc
-  by_plan range (goal ∷ goals) None script world o lacks told described p done written =
+  pub by_plan : AreInRange limits → (goals : List ℕ) (lack : Option JoinFault) (script : List ℕ) (world : World) (o : Output) → first_unserved a.drivers world.rows ≡ lack → Describes script world
+      → PlannedOr (refusal_for goals lack) world limits a.drivers o → o.exit ≡ exit.Done → Appended a.written b.written o.bytes → Reaches script
+  by_plan range [] lack script world o lacks described p done written = let e : exit.World ≡ exit.Done = sym (ap (λ (z : Output). z.exit) p) ∙ done in cc
+  by_plan range (goal ∷ goals) (Some fault) script world o lacks described p done written = let e : exit.World ≡ exit.Done = sym (ap (λ (z : Output). z.exit) p) ∙ done in cc
+  by_plan range (goal ∷ goals) None script world o lacks described p done written =
       let served = all_served a.drivers world.rows lacks in
-      by_end script world p.planned.steps p.planned.end told described (laws.reach world limits p.planned p.run.trials p.run.last p.run.run) p.alone
+      by_end script world p.planned.steps p.planned.end described (laws.reach world limits p.planned p.run.trials p.run.last p.run.run) p.alone
       (laws.named world limits p.planned p.run.trials p.run.last p.valid p.run.run) (laws.join world limits p.planned p.run.trials p.run.last a.drivers p.valid served p.run.run)
       (laws.short world limits p.planned p.run.trials p.run.last p.valid range p.run.run)
       (sym (ap (λ (z : Output). z.exit) p.is) ∙ done) (subst (λ (z : Output). Appended a.written b.written z.bytes) p.is written)
 
   -- what is not a plan is no output at Done
-  pub not_done : (o refused : Output) → refused.exit ≡ exit.World → o ≡ refused → o.exit ≡ exit.Done → Reaches
-  not_done o refused is p done = let e : exit.World ≡ exit.Done = sym is ∙ sym (ap (λ (z : Output). z.exit) p) ∙ done in cc
+  pub not_done : (script : List ℕ) (o refused : Output) → refused.exit ≡ exit.World → o ≡ refused → o.exit ≡ exit.Done → Reaches script
+  not_done script o refused is p done = let e : exit.World ≡ exit.Done = sym is ∙ sym (ap (λ (z : Output). z.exit) p) ∙ done in cc
 
-  by_length : (long : Bool) (script : List ℕ) (o : Output) (Plans : Type 0) → (Plans → o.exit ≡ exit.Done → Appended a.written b.written o.bytes → Reaches)
-      → MatchBool long (o ≡ too_long file.World) Plans → o.exit ≡ exit.Done → Appended a.written b.written o.bytes → Reaches
-  by_length true script o Plans by p done written = not_done o (too_long file.World) refl p done
+  by_length : (long : Bool) (script : List ℕ) (o : Output) (Plans : Type 0) → (Plans → o.exit ≡ exit.Done → Appended a.written b.written o.bytes → Reaches script)
+      → MatchBool long (o ≡ too_long file.World) Plans → o.exit ≡ exit.Done → Appended a.written b.written o.bytes → Reaches script
+  by_length true script o Plans by p done written = not_done script o (too_long file.World) refl p done
   by_length false script o Plans by p done written = by p done written
 
   -- an output was given whose file is not too long
   module _ (Gives : Giving) (Begins : Beginning) (Plans : List ℕ → Output → Type 0)
       (opens : (files : Contents) (moments : Moments) (o : Output) → Gives files moments a.drivers o → OrTooLong files.world (too_long file.World) o (Plans files.world o))
-      (by : (script : List ℕ) (o : Output) → Tells script → Plans script o → o.exit ≡ exit.Done → Appended a.written b.written o.bytes → Reaches)
+      (by : (script : List ℕ) (o : Output) → Plans script o → o.exit ≡ exit.Done → Appended a.written b.written o.bytes → Reaches script)
     where
-      by_answer : (files : Contents) (moments : Moments) → Tells files.world → Answers (Gives files moments a.drivers) (Begins files) exit.Done a b → Reaches
-      by_answer files moments told (inl x) =
-          by_length (is_too_long files.world) files.world x.0 (Plans files.world x.0) (by files.world x.0 told) (opens files moments x.0 x.1) x.2.0 x.2.1
-      by_answer files moments told (inr y) = let e : exit.Done ≡ exit.Memory = y.exit in cc
+      by_answer : (files : Contents) (moments : Moments) → Answers (Gives files moments a.drivers) (Begins files) exit.Done a b → Reaches files.world
+      by_answer files moments (inl x) = by_length (is_too_long files.world) files.world x.0 (Plans files.world x.0) (by files.world x.0) (opens files moments x.0 x.1) x.2.0 x.2.1
+      by_answer files moments (inr y) = let e : exit.Done ≡ exit.Memory = y.exit in cc
 
-      pub reached_by : (shelf : Type 0) (IsUnread : File → Type 0) → ReadFailed shelf IsUnread exit.Done a b ⊎ FilesAnswered holds (world_alone name) Gives Begins exit.Done a b → Reaches
-      reached_by shelf IsUnread (inl r) = absurd (not_given r.1 (subst IsGiven (sym r.3.0) tt))
-      reached_by shelf IsUnread (inr f) = by_answer f.files f.answers.moments f.told.world f.answers.holds
+      pub reached_by : (files : Contents) → GaveOf files Gives Begins exit.Done a b → Reaches files.world
+      reached_by files gave = by_answer files gave.moments gave.holds
 
 -- .. by a world script
-module _ (laws : PlanLaws) (limits : Limits) (range : AreInRange limits) (holds : Option (List ℕ → List ℕ)) (name : List ℕ) (a b : Side) where
-  by_world : (described : Result World WorldFault) (script : List ℕ) (o : Output) → Tells laws limits holds name IsScriptOf a b script → ReadsWorld script described → ReadPlans described limits a.drivers o
-      → o.exit ≡ exit.Done → Appended a.written b.written o.bytes → Reaches laws limits holds name IsScriptOf a b
-  by_world (Ok world) script o told described p done written = by_plan laws limits holds name IsScriptOf a b range world.goals (first_unserved a.drivers world.rows) script world o refl told described p done written
-  by_world (Err fault) script o told described p done written = not_done laws limits holds name IsScriptOf a b o (world_refused fault) refl p done
+module _ (laws : PlanLaws) (limits : Limits) (range : AreInRange limits) (a b : Side) where
+  by_world : (described : Result World WorldFault) (script : List ℕ) (o : Output) → ReadsWorld script described → ReadPlans described limits a.drivers o
+      → o.exit ≡ exit.Done → Appended a.written b.written o.bytes → Reaches laws limits IsScriptOf a b script
+  by_world (Ok world) script o described p done written = by_plan laws limits IsScriptOf a b range world.goals (first_unserved a.drivers world.rows) script world o refl described p done written
+  by_world (Err fault) script o described p done written = not_done laws limits IsScriptOf a b script o (world_refused fault) refl p done
 
-  pub reached_of : (shelf : Type 0) (IsUnread : File → Type 0) → ReadFailed shelf IsUnread exit.Done a b ⊎ FilesAnswered holds (world_alone name) (Plans limits) (Begins limits) exit.Done a b → Reaches laws limits holds name IsScriptOf a b
-  reached_of = reached_by laws limits holds name IsScriptOf a b (Plans limits) (Begins limits) (λ bytes o. (described : Result World WorldFault) × ReadsWorld bytes described × ReadPlans described limits a.drivers o)
-      (λ files moments o p. p) (λ script o told p done written. by_world p.0 script o told p.1 p.2 done written)
+  pub reached_of : (files : Contents) → GaveOf files (Plans limits) (Begins limits) exit.Done a b → Reaches laws limits IsScriptOf a b files.world
+  reached_of = reached_by laws limits IsScriptOf a b (Plans limits) (Begins limits) (λ bytes o. (described : Result World WorldFault) × ReadsWorld bytes described × ReadPlans described limits a.drivers o)
+      (λ files moments o p. p) (λ script o p done written. by_world p.0 script o p.1 p.2 done written)
 
 -- .. by the script that a ground file stands for
-module _ (laws : PlanLaws) (limits : Limits) (range : AreInRange limits) (holds : Option (List ℕ → List ℕ)) (name : List ℕ) (a b : Side) where
-  by_said : (g : Grounded) (read : Result World WorldFault) (said : Result World GroundFault) (script : List ℕ) (o : Output) → said ≡ world_from g.origins read → Tells laws limits holds name IsGroundOf a b script → reads_ground script ≡ Ok g
-      → ReadsWorld g.text read → SaidPlans said limits a.drivers o → o.exit ≡ exit.Done → Appended a.written b.written o.bytes → Reaches laws limits holds name IsGroundOf a b
-  by_said g (Ok world) said script o is told grounded described p done written =
-      by_plan laws limits holds name IsGroundOf a b range world.goals (first_unserved a.drivers world.rows) script world o refl told (g, grounded, described)
+module _ (laws : PlanLaws) (limits : Limits) (range : AreInRange limits) (a b : Side) where
+  by_said : (g : Grounded) (read : Result World WorldFault) (said : Result World GroundFault) (script : List ℕ) (o : Output) → said ≡ world_from g.origins read → reads_ground script ≡ Ok g
+      → ReadsWorld g.text read → SaidPlans said limits a.drivers o → o.exit ≡ exit.Done → Appended a.written b.written o.bytes → Reaches laws limits IsGroundOf a b script
+  by_said g (Ok world) said script o is grounded described p done written =
+      by_plan laws limits IsGroundOf a b range world.goals (first_unserved a.drivers world.rows) script world o refl (g, grounded, described)
       (subst (λ (r : Result World GroundFault). SaidPlans r limits a.drivers o) is p) done written
-  by_said g (Err fault) said script o is told grounded described p done written =
-      not_done laws limits holds name IsGroundOf a b o _ refl (subst (λ (r : Result World GroundFault). SaidPlans r limits a.drivers o) is p) done
+  by_said g (Err fault) said script o is grounded described p done written =
+      not_done laws limits IsGroundOf a b script o _ refl (subst (λ (r : Result World GroundFault). SaidPlans r limits a.drivers o) is p) done
 
-  by_ground : (read : Result Grounded GroundFault) (script : List ℕ) (o : Output) → Tells laws limits holds name IsGroundOf a b script → reads_ground script ≡ read → GroundedPlans read limits a.drivers o
-      → o.exit ≡ exit.Done → Appended a.written b.written o.bytes → Reaches laws limits holds name IsGroundOf a b
-  by_ground (Ok g) script o told grounded p done written = by_said g p.1.read p.0 script o p.1.is told grounded p.1.reads p.2 done written
-  by_ground (Err fault) script o told grounded p done written = not_done laws limits holds name IsGroundOf a b o (ground_refused fault) refl p done
+  by_ground : (read : Result Grounded GroundFault) (script : List ℕ) (o : Output) → reads_ground script ≡ read → GroundedPlans read limits a.drivers o
+      → o.exit ≡ exit.Done → Appended a.written b.written o.bytes → Reaches laws limits IsGroundOf a b script
+  by_ground (Ok g) script o grounded p done written = by_said g p.1.read p.0 script o p.1.is grounded p.1.reads p.2 done written
+  by_ground (Err fault) script o grounded p done written = not_done laws limits IsGroundOf a b script o (ground_refused fault) refl p done
 
-  pub ground_reached_of : (shelf : Type 0) (IsUnread : File → Type 0) → ReadFailed shelf IsUnread exit.Done a b ⊎ FilesAnswered holds (world_alone name) (GroundPlans limits) (GroundBegins limits) exit.Done a b → Reaches laws limits holds name IsGroundOf a b
-  ground_reached_of = reached_by laws limits holds name IsGroundOf a b (GroundPlans limits) (GroundBegins limits) (λ bytes o. GroundedPlans (reads_ground bytes) limits a.drivers o)
-      (λ files moments o p. p) (λ script o told p done written. by_ground (reads_ground script) script o told refl p done written)
+  pub ground_reached_of : (files : Contents) → GaveOf files (GroundPlans limits) (GroundBegins limits) exit.Done a b → Reaches laws limits IsGroundOf a b files.world
+  ground_reached_of = reached_by laws limits IsGroundOf a b (GroundPlans limits) (GroundBegins limits) (λ bytes o. GroundedPlans (reads_ground bytes) limits a.drivers o)
+      (λ files moments o p. p) (λ script o p done written. by_ground (reads_ground script) script o refl p done written)
 
 -- ---- Words
 
@@ -782,23 +776,39 @@ module _ (holds : Option (List ℕ → List ℕ)) (result : Exit) (shelf : Type 
   unasked_of None gave other = gave_unasked words_refused result a b refl gave
   unasked_of (Some c) answered other = unasked_clause c result shelf IsUnread a b holds other answered
 
-  planned_done : PlanLaws → (command : Option Command) → IfSome command IsInRange → CommandAnswered command holds shelf IsUnread exit.Done a b → ReachesIfPlan command holds a b
-  planned_done laws None range answered = tt
-  planned_done laws (Some (Tick t w main)) range answered = tt
-  planned_done laws (Some (Live t w rounds main)) range answered = tt
-  planned_done laws (Some (Load leaves)) range answered = tt
-  planned_done laws (Some (Check t main)) range answered = tt
-  planned_done laws (Some (Dead t main)) range answered = tt
-  planned_done laws (Some (Exclusive t ids main)) range answered = tt
-  planned_done laws (Some (Mock t w rules main)) range answered = tt
-  planned_done laws (Some (MockPrint t rules main)) range answered = tt
-  planned_done laws (Some (Expect t w e main)) range answered = tt
-  planned_done laws (Some (Ground w)) range answered = tt
-  planned_done laws (Some (GroundPlan w expand ticks period)) range answered = ground_reached_of laws (limits_of expand ticks period) range holds w a b shelf IsUnread answered
-  planned_done laws (Some (Plan w expand ticks period)) range answered = reached_of laws (limits_of expand ticks period) range holds w a b shelf IsUnread answered
+  -- a plan that is done has read its file
+  planned_read : PlanLaws → (c : Command) → IsInRange c → (files : Contents) → GaveOf files (FilesGive c) (FilesBegin c) exit.Done a b → ReachesIfPlan (Some c) (AllRead files) a b
+  planned_read laws (Tick t w main) range files gave = tt
+  planned_read laws (Live t w rounds main) range files gave = tt
+  planned_read laws (Load leaves) range files gave = tt
+  planned_read laws (Check t main) range files gave = tt
+  planned_read laws (Dead t main) range files gave = tt
+  planned_read laws (Exclusive t ids main) range files gave = tt
+  planned_read laws (Mock t w rules main) range files gave = tt
+  planned_read laws (MockPrint t rules main) range files gave = tt
+  planned_read laws (Expect t w e main) range files gave = tt
+  planned_read laws (Ground w) range files gave = tt
+  planned_read laws (GroundPlan w expand ticks period) range files gave = ground_reached_of laws (limits_of expand ticks period) range a b files gave
+  planned_read laws (Plan w expand ticks period) range files gave = reached_of laws (limits_of expand ticks period) range a b files gave
 
-  pub planned_of : PlanLaws → (command : Option Command) → IfSome command IsInRange → CommandAnswered command holds shelf IsUnread result a b → result ≡ exit.Done → ReachesIfPlan command holds a b
-  planned_of laws command range answered is = planned_done laws command range (subst (λ (e : Exit). CommandAnswered command holds shelf IsUnread e a b) is answered)
+  unread_not_done : (P : Type 0) (which : File) → Gave (unread which) exit.Done a b → P
+  unread_not_done P which gave = absurd (not_given which (subst IsGiven (sym gave.0) tt))
+
+  too_long_not_done : (P : Type 0) (which : File) → Gave (too_long which) exit.Done a b → P
+  too_long_not_done P file.Tree gave = let e : exit.Tree ≡ exit.Done = gave.0 in cc
+  too_long_not_done P file.World gave = let e : exit.World ≡ exit.Done = gave.0 in cc
+  too_long_not_done P file.Rules gave = let e : exit.Rules ≡ exit.Done = gave.0 in cc
+  too_long_not_done P file.Expect gave = let e : exit.Expect ≡ exit.Done = gave.0 in cc
+
+  planned_end : PlanLaws → (command : Option Command) → IfSome command IsInRange → (end : ReadsEnd) → AnsweredAfter command holds shelf end exit.Done a b → ReachesIfPlan command end a b
+  planned_end laws None range end answered = tt
+  planned_end laws (Some c) range (AllRead files) answered = planned_read laws c range files answered.1
+  planned_end laws (Some c) range (StoppedAt which shelf_fault.Failed) answered = unread_not_done _ which answered.1
+  planned_end laws (Some c) range (StoppedAt which shelf_fault.TooLong) answered = too_long_not_done _ which answered
+  planned_end laws (Some c) range (StoppedAt which shelf_fault.NoMemory) answered = let e : exit.Done ≡ exit.Memory = answered.exit in cc
+
+  pub planned_of : PlanLaws → (command : Option Command) → IfSome command IsInRange → (end : ReadsEnd) → AnsweredAfter command holds shelf end result a b → result ≡ exit.Done → ReachesIfPlan command end a b
+  planned_of laws command range end answered is = planned_end laws command range end (subst (λ (e : Exit). AnsweredAfter command holds shelf end e a b) is answered)
 
   pub read_of : (command : Option Command) → CommandAnswered command holds shelf IsUnread result a b → result ≡ exit.Read → shelf × UnreadLine IsUnread a b
   read_of None gave is = none_read result shelf IsUnread a b gave is

@@ -31,10 +31,10 @@ given_short : (bytes : List ℕ) (refusal output : Output) (Gives : Type 0) → 
 given_short bytes refusal output Gives short gives = subst (λ (b : Bool). MatchBool b (output ≡ refusal) Gives) (sym (not_long bytes short)) gives
 
 -- each output of the bytes that were written is the run of the tree
-pub runs_as_it_stands : OneReading → (holds : Option (List ℕ → List ℕ)) (named : List ℕ) (Describes : List ℕ → World → Type 0) (period : ℕ) (old new : Side) (p : PlanReaches holds named Describes period old new)
+pub runs_as_it_stands : OneReading → (read : List ℕ) (Describes : List ℕ → World → Type 0) (period : ℕ) (old new : Side) (p : PlanReaches read Describes period old new)
     (n : ℕ) (script : List ℕ) (g : Given) (o : Output) → g.drivers ≡ old.drivers → ReadsWorld script (Ok (ticking p.world period n)) → length script ≤ most_file_bytes
     → RunGives None (plan_file p.steps p.tree p.tick) script g o → o ≡ run_output p.tree (ticking p.world period n) g
-runs_as_it_stands one holds named Describes period old new p n script g o drivers reads short gives =
+runs_as_it_stands one read Describes period old new p n script g o drivers reads short gives =
     let world : World = ticking p.world period n in
     let bytes : List ℕ = plan_file p.steps p.tree p.tick in
     let ran : Output = run_output p.tree world g in

@@ -1,6 +1,6 @@
 ghost use Rattle.std.specs.Prelude.{◌≡◌, ◌≤◌, ◌⊎◌, map};
 ghost use Rattle.spec_program.specs.Answered.{ReadFailed, WordsAnswered};
-ghost use Rattle.spec_program.specs.Answers.{DriversWithin, Gave, side};
+ghost use Rattle.spec_program.specs.Answers.{DriversWithin, Gave, WritesAt, side};
 ghost use Rattle.spec_program.specs.Reads.{WordsUnread};
 ghost use Rattle.spec_run.specs.Rosters.{IsSameRoster};
 ghost use Rattle.spec_program.specs.Headline.{EachOutput, IsGiven, ReachesIfPlan, WholeOutput};
@@ -73,15 +73,23 @@ pub fn bt<S: Shelf, K: Sink, C: Clock>(
 
     // Where a plan is Done, all that was written is a tree file that is not too long. As it stands it reads as
     // a tree that joins the world with these drivers, and that makes every goal true after the tick that was
-    // written, in its own run, and not all of them after any earlier one.
-    ensures planned { result ≡ Exit.Done → ReachesIfPlan (command_of words.now) (S.holds shelf.old)
-        (side (K.written out.old) (K.faults out.old) (C.moments clock.old) (map (λ b. state b) roster.old.items))
-        (side (K.written out.new) (K.faults out.new) (C.moments clock.new) (map (λ b. state b) roster.new.items)) }
+    // written, in its own run, and not all of them after any earlier one. The world is that of the bytes of
+    // its file of which `reads` speaks, whichever they are: it follows from `reads`.
+    ensures planned { let old = side (K.written out.old) (K.faults out.old) (C.moments clock.old) (map (λ b. state b) roster.old.items) in
+        let new = side (K.written out.new) (K.faults out.new) (C.moments clock.new) (map (λ b. state b) roster.new.items) in
+        (read : WordsAnswered S.read_gives (S.holds shelf.old) (command_of words.now)
+        (Rose (S.faults shelf.old) (S.faults shelf.new)) shelf.old shelf.new result old new)
+        → result ≡ Exit.Done → ReachesIfPlan (command_of words.now) read.end old new }
 
     // Whatever the answer, no driver holds anything, and the roster is the same: as many drivers, of
     // the same kinds and marks in the same places, and no total has fallen.
     ensures none { NothingHeld (map (λ b. state b) roster.new.items) }
     ensures roster { IsSameRoster (map (λ b. state b) roster.old.items) (map (λ b. state b) roster.new.items) }
+
+    // Whatever is answered, each write was of whole lines, none was empty, and none has failed but the last one, and that
+    // at Write and Memory alone, and nothing else was done to the sink: no line is in two writes, and nothing is written
+    // after a write that failed.
+    ensures writes { WritesAt K.write_gives result out.old out.new }
 
     // No count of failures has fallen.
     ensures counts { (S.faults shelf.old ≤ S.faults shelf.new) × (K.faults out.old ≤ K.faults out.new) }

@@ -93,10 +93,10 @@ pub fn loads_are_answered_over_every_shelf<S: Shelf>(before: &S, after: &S)
 /// these drivers, is the run of the plan's tree. That run is the modelled one, in which the goals are true after the tick
 /// that was written.
 pub fn plans_run_as_they_stand()
-    ensures script { (holds : Option (List ℕ → List ℕ)) (named : List ℕ) (period : ℕ) (old new : Side)
-        (p : PlanReaches holds named IsScriptOf period old new) → RunsByTick p.steps p.tree p.tick p.world period old.drivers }
-    ensures ground { (holds : Option (List ℕ → List ℕ)) (named : List ℕ) (period : ℕ) (old new : Side)
-        (p : PlanReaches holds named IsGroundOf period old new) → RunsByTick p.steps p.tree p.tick p.world period old.drivers }
+    ensures script { (file : List ℕ) (period : ℕ) (old new : Side)
+        (p : PlanReaches file IsScriptOf period old new) → RunsByTick p.steps p.tree p.tick p.world period old.drivers }
+    ensures ground { (file : List ℕ) (period : ℕ) (old new : Side)
+        (p : PlanReaches file IsGroundOf period old new) → RunsByTick p.steps p.tree p.tick p.world period old.drivers }
     ensures modelled { (tree : Tree) (world : World) (period n : ℕ) →
         run_over tree (ticking world period n) (ticking world period n).events ≡ modelled_run tree world period n }
 {

@@ -9,6 +9,7 @@ use Rattle.spec_output.specs.Rounds.{AreBegun, CanBegin, moments_after}
 use Rattle.spec_program.specs.Output.{AreUncalled, Asked, Begun, Calls, Never, NoCalls, OfPlan, OfRun, Output, Times, UpToFault}
 use Rattle.spec_outside.specs.Appending.{Appended, AppendedPrefix}
 use Rattle.spec_outside.specs.Counts.{Rose}
+use Rattle.spec_outside.specs.Writes.{Writing, WroteLines, WroteSome}
 use Rattle.spec_output.specs.Cuts.{HaveBegunWithin, IsCutOff}
 use Rattle.spec_program.specs.declared.exit.Exit.TheVariants as exit
 
@@ -112,3 +113,9 @@ pub record AtMoments (clock : Option Moments) (P : Moments → Type 0) : Type 0 
 -- no moments at all
 abbrev pub no_moments : Moments
 no_moments = record { ahead = []; last = 0 }
+
+-- whole lines were written by a command with this exit: no write has failed but the last one, and that only at Write and Memory
+abbrev pub WritesAt : {Sink Fault : Type 0} → Writing Sink Fault → Exit → Sink → Sink → Type 0
+WritesAt gives exit.Write old new = WroteSome gives old new
+WritesAt gives exit.Memory old new = WroteSome gives old new
+WritesAt gives _ old new = WroteLines gives old new

@@ -15,7 +15,7 @@ use Rattle.spec_plan.specs.PlanLines.{end_line, step_line}
 use Rattle.spec_plan.specs.Modelled.{ReachedAt, modelled, ticks}
 use Rattle.spec_output.specs.NoNames.{no_names}
 use Rattle.spec_program.specs.Answers.{IfTold, IsWhole, Side, no_moments}
-use Rattle.spec_program.specs.Answered.{ToldIfNamed}
+use Rattle.spec_program.specs.Reads.{AllRead, ReadsEnd, StoppedAt}
 use Rattle.spec_program.specs.Jobs.{CommandGives}
 use Rattle.spec_program.specs.Output.{Output}
 use Rattle.spec_program.specs.declared.exit.Exit.{Exit}
@@ -47,13 +47,11 @@ plan_file steps tree tick = concat (map step_line steps) ++ (end_line no_names (
 abbrev pub ticking : World → ℕ → ℕ → World
 ticking world period n = record (modelled world) { events = ticks period n }
 
--- The goals of the world that this file describes are reached by a tree. What was written is a tree file that is not too
+-- The goals of the world that these bytes describe are reached by a tree. What was written is a tree file that is not too
 -- long: some steps, the tick that reaches the goals, and the tree. As it stands it reads as the tree, which joins the world
 -- with the drivers that were there, where the script of the world is a tick each period. And in the tree's own run, ticked so,
 -- every goal is true after this tick, and not all are true after any earlier one.
-pub record PlanReaches (holds : Option (List ℕ → List ℕ)) (named : List ℕ) (Describes : List ℕ → World → Type 0) (period : ℕ) (old new : Side) : Type 0 where
-  pub file : List ℕ
-  pub told : ToldIfNamed holds (Some named) (λ bytes. file ≡ bytes)
+pub record PlanReaches (file : List ℕ) (Describes : List ℕ → World → Type 0) (period : ℕ) (old new : Side) : Type 0 where
   pub world : World
   pub described : Describes file world
   pub steps : List Step
@@ -65,11 +63,13 @@ pub record PlanReaches (holds : Option (List ℕ → List ℕ)) (named : List �
   pub joins : (n : ℕ) → lack_of tree (ticking world period n) old.drivers ≡ None
   pub reached : ReachedAt tree world period tick
 
--- where the command is a plan, its goals are reached
-abbrev pub ReachesIfPlan : Option Command → Option (List ℕ → List ℕ) → Side → Side → Type 0
-ReachesIfPlan (Some (Plan world expand ticks period)) holds old new = PlanReaches holds world IsScriptOf period old new
-ReachesIfPlan (Some (GroundPlan world expand ticks period)) holds old new = PlanReaches holds world IsGroundOf period old new
-ReachesIfPlan _ holds old new = Unit {0}
+-- where the command is a plan: its file was read, and a tree reaches the goals of the world that its bytes describe
+abbrev pub ReachesIfPlan : Option Command → ReadsEnd → Side → Side → Type 0
+ReachesIfPlan (Some (Plan world expand ticks period)) (AllRead files) old new = PlanReaches files.world IsScriptOf period old new
+ReachesIfPlan (Some (GroundPlan world expand ticks period)) (AllRead files) old new = PlanReaches files.world IsGroundOf period old new
+ReachesIfPlan (Some (Plan world expand ticks period)) (StoppedAt which gave) old new = ⊥
+ReachesIfPlan (Some (GroundPlan world expand ticks period)) (StoppedAt which gave) old new = ⊥
+ReachesIfPlan _ end old new = Unit {0}
 
 -- what has to be told of a clock for the output of a command: its moments for `live`, and nothing for others
 abbrev pub moments_for : Option Command → Option Moments → Option Moments

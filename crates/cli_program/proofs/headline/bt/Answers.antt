@@ -19,4 +19,4 @@ pub returns-clause-roster : goal.returns-clause-roster
 returns-clause-roster g c = rw (← c.replace.ensures.value) c.run_words-exit.ensures.kept.same
 
 pub returns-clause-planned : goal.returns-clause-planned
-returns-clause-planned g c = rw (← c.replace.ensures.value) (planned_of _ _ _ _ _ _ (record { reach = c.plans_reach.ensures; join = c.planned_trees_join.ensures; named = c.steps_are_named_plainly.ensures; short = c.plans_are_short.ensures; read = c.printed_trees_read_back_after_comments.ensures.lone }) _ (command_fits c.args.words.now) (any_bytes g.S.Shelf.read_gives (g.S.Shelf.holds c.args.shelf.now) _ _ _ _ _ _ _ c.run_words-exit.ensures.reads))
+returns-clause-planned g c = rw (← c.replace.ensures.value) (λ read. planned_of _ _ _ (λ _. Unit {0}) _ _ (record { reach = c.plans_reach.ensures; join = c.planned_trees_join.ensures; named = c.steps_are_named_plainly.ensures; short = c.plans_are_short.ensures; read = c.printed_trees_read_back_after_comments.ensures.lone }) _ (command_fits c.args.words.now) read.end read.answered)
