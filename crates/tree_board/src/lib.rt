@@ -8,9 +8,11 @@ mod keys;
 mod limit;
 mod naming;
 mod order;
+mod recorded;
 mod scope;
 mod slots;
 
 pub use board::{Board, board_of};
 pub use limit::is_within_slots;
+pub use recorded::{Past, Recorded};
 pub use slots::{Slots, cells, no_slots, slot, slot_count, slots_of};
