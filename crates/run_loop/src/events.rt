@@ -48,9 +48,10 @@ fn stop<D: Drivers>(runs: &mut Runs, drivers: &mut D, notes: &mut Notes)
 /// memory.
 fn tell(told: Result<(), NoMemory>, runs: &mut Runs, block: &mut Block) -> Result<(), NoMemory>
     requires can { CanTell runs.old }
-    ensures told { OnOk result (IsTelling told runs.old.facts runs.old.told runs.new.told block.old block.new) }
+    ensures told { let before = runs.old.told.items in
+        OnOk result (IsTelling told runs.old.facts before runs.new.told.items block.old block.new) }
     ensures runs { runs.new ≡ record runs.old { told = runs.new.told } }
-    ensures rest { block.new ≡ record block.old { facts = block.new.facts } }
+    ensures notes { block.new.notes ≡ block.old.notes }
 {
     told?;
     tell_facts_in(&mut runs.told, &runs.facts, block)

@@ -1,13 +1,14 @@
-ghost use Rattle.std.specs.Prelude.{◌≡◌, ◌≤◌, ◌<◌, ◌++◌, ◌∷◌, ℕ, ℤ, List, OnOk, OnErr, Some, length, slice_set};
+ghost use Rattle.std.specs.Prelude.{◌≡◌, ◌≤◌, ◌<◌, ◌^◌, ◌++◌, ◌∷◌, ℕ, ℤ, List, OnOk, OnErr, Some, length, slice_set};
 ghost use Rattle.spec_run.specs.declared.note.Note.{Note as NoteOf};
 ghost use Rattle.spec_run.specs.declared.note.Note.TheVariants.{Root};
-ghost use Rattle.spec_run.specs.Run.{Runner, runner_at, settled};
+ghost use Rattle.base_texts.specs.Stops.{UnlessMemory};
+ghost use Rattle.spec_run.specs.Run.{Runner, changed_entries, runner_at, settled};
 ghost use Rattle.spec_run.specs.Visit.{change};
 ghost use Rattle.run_arena.specs.Ends.{StaysFit};
 ghost use Rattle.run_arena.specs.Nodes.{kept_at};
 ghost use Rattle.run_arena.specs.Noted.{calls_named};
 ghost use Rattle.run_loop.specs.Parts.{CanAct, CanTake, MeetsPart, PartEnds, StaysArena, acting, scene_of, turn_header, turn_part};
-ghost use Rattle.run_loop.specs.Runs.{RunsFit, arenas_of, state_of_runs};
+ghost use Rattle.run_loop.specs.Runs.{RunsFit, arenas_of, nth_board, state_of_runs};
 ghost use Rattle.spec_run.specs.Served.{Setup};
 
 use crate::runs::{ReadyRunner, Runs};
@@ -255,6 +256,20 @@ fn act<D: Drivers, P: Past>(
 ) -> Acted
     requires can { (of : Setup) × CanAct of.tree of.world turn.at facts.old (D.states drivers.old) runner.old }
     requires past { runner.old.board ≡ P.past }
+    requires few { length runner.old.board < 2 ^ 32 }
+    ensures part { (of : Setup) → CanAct of.tree of.world turn.at facts.old (D.states drivers.old) runner.old →
+        let old = scene_of runner.old facts.old (D.states drivers.old) in
+        let new = scene_of runner.new facts.new (D.states drivers.new) in
+        MeetsPart of turn.part turn.at result.ended runner.old old new block.old.notes.list block.new.notes.list }
+    ensures fits { let old = scene_of runner.old facts.old (D.states drivers.old) in
+        let new = scene_of runner.new facts.new (D.states drivers.new) in
+        StaysFit runner.old.arena.nodes.items old new }
+    ensures stays { StaysArena runner.old.arena runner.new.arena }
+    ensures told { let changes = changed_entries turn.runner 0 P.past runner.new.board in
+        UnlessMemory result.ended (OnOk result.told (block.new.entries.items ≡ block.old.entries.items ++ changes)) }
+    ensures rest { block.new ≡ record block.old { notes = block.new.notes; entries = block.new.entries } }
+    ensures reserve { block.old.notes.reserve ≤ block.new.notes.reserve }
+    ensures full { block.new.notes.full ≡ block.old.notes.full }
 {
     let board = mem::replace(&mut runner.board, Board::empty(alloc));
     let mut board: Recorded<P> = Recorded::of(board);
@@ -287,6 +302,10 @@ pub fn make_part_of<D: Drivers>(
     ensures fit { (of : Setup) → CanTake of turn (D.states drivers.old) runs.old → RunsFit of (D.states drivers.new) runs.new }
     ensures kept { runs.new ≡ record runs.old { runners = runs.new.runners; facts = runs.new.facts; last = turn.at } }
     ensures arenas { arenas_of runs.new ≡ arenas_of runs.old }
+    ensures told { let before = nth_board runs.old.runners.items turn.runner in
+        let changes = changed_entries turn.runner 0 before (nth_board runs.new.runners.items turn.runner) in
+        UnlessMemory result.ended (OnOk result.told (block.new.entries.items ≡ block.old.entries.items ++ changes)) }
+    ensures rest { block.new ≡ record block.old { notes = block.new.notes; entries = block.new.entries } }
     ensures reserve { block.old.notes.reserve ≤ block.new.notes.reserve }
     ensures full { block.new.notes.full ≡ block.old.notes.full }
 {

@@ -1,8 +1,10 @@
 -- What a write leaves of the record of an event.
-use Rattle.std.proofs.Common.{◌≡◌, inl, inr, ℕ, ◌<◌, ◌/◌, ◌%◌, List, Option, Some, None, true, get_or, is_some, length, set, refl, sym, ap, ◌∙◌, arith}
+use Rattle.std.proofs.Common.{◌≡◌, inl, inr, ℕ, ◌<◌, ◌*◌, ◌/◌, ◌%◌, ◌^◌, w64, List, Option, Some, None, true, false, get_or, is_some, length, set, refl, sym, ap, ◌∙◌, arith}
 use Rattle.std.proofs.lemmas.Bool.{cases_eq}
 use Rattle.std.proofs.lemmas.List.{get_or-set_other, get_or-set_same, length-set}
+use Rattle.std.proofs.lemmas.Nat.Bits.{bit_at_set_other, bit_at_set_same}
 use Rattle.std.specs.Int.{bit_at}
+use Rattle.std.specs.Prelude.{bit_or}
 use Rattle.spec_script.specs.declared.value.Value.{Value}
 use Rattle.tree_board.specs.Records.{AreMarked, IsRecord, held_before}
 
@@ -13,6 +15,10 @@ clear_slot (Some e) bit marked clear = absurd (omega (arith, clear, marked refl)
 
 pub not_kept : (before : List (Option (Option Value))) (groups slot : ℕ) → AreMarked before groups → bit_at groups (slot / 64 % 64) ≡ 0 → get_or before slot None ≡ None
 not_kept before groups slot marked clear = clear_slot (get_or before slot None) _ (marked slot) clear
+
+pub none_from : (kept : Option (Option Value)) → is_some kept ≡ false → kept ≡ None
+none_from None is = refl
+none_from (Some e) is = cc
 
 -- what a slot held, of which something is kept, does not depend on what it holds
 held_still : (kept : Option (Option Value)) (old new : Option Value) → is_some kept ≡ true → held_before kept old ≡ held_before kept new
@@ -60,3 +66,13 @@ module _ (opening entries : List (Option Value)) (before : List (Option (Option 
           | inr there ↦ still _ (r.marked other (ap is_some (sym (get_or-set_other before slot other entry None there)) ∙ kept))
         ];
       }
+
+-- the bit of a group is set, and the others stay
+pub marks_bit : (groups k : ℕ) → k < 64 → bit_at (bit_or groups (1 * 2 ^ k % 18446744073709551616)) k ≡ 1
+marks_bit groups k low = bit_at_set_same w64 groups k low
+
+pub keeps_bits : (groups k : ℕ) → k < 64 → (bit : ℕ) → bit_at groups bit ≡ 1 → bit_at (bit_or groups (1 * 2 ^ k % 18446744073709551616)) bit ≡ 1
+keeps_bits groups k low bit is = elim (cases_eq bit k) [
+  | inl here ↦ ap (bit_at (bit_or groups (1 * 2 ^ k % 18446744073709551616))) here ∙ bit_at_set_same w64 groups k low
+  | inr there ↦ bit_at_set_other w64 groups k low bit there ∙ is
+]

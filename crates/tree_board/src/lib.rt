@@ -1,6 +1,6 @@
 //! Blackboards. Each key that a tree names, in the scope in which it is named, is resolved once to
 //! the slot of its cell. A board holds a value, or none, for each slot, and follows nothing at run
-//! time.
+//! time. In an event it keeps what the slots held that are written.
 #![tactic(auto)]
 
 mod board;

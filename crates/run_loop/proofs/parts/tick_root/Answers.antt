@@ -8,6 +8,7 @@ use Rattle.run_arena.specs.Stages.{scene_on}
 use Rattle.run_nodes.proofs.Following.{stops_with}
 use Rattle.run_nodes.proofs.Standing.{stays_fit}
 use Rattle.run_loop.specs.declared.parts.Part.TheVariants.{Tick}
+use Rattle.run_loop.specs.Parts.{acting}
 use Rattle.run_loop.proofs.Seen.{can_visit, first, given_back, made_of, part_seen, scene_as, stays_seen, there_as, told_as}
 use Rattle.run_loop.proofs.TickEnds.{end_cut, end_told, root_notes, root_there, tick_followed, tick_stopped}
 use Rattle.run_loop.proofs.parts.tick_root.Goals as goal
@@ -15,14 +16,14 @@ use Rattle.run_loop.proofs.parts.tick_root.Goals as goal
 pub tick-visited-requires : goal.tick-visited-requires
 tick-visited-requires g c =
     let states = g.D.Drivers.states in
-    let m = made_of c.args.runner.now c.args.facts.now (states c.args.drivers.now) c.args.at c.deref.ensures.value c.deref_mut-kept.ensures.value c.deref_mut-kept.ensures.len in
+    let m = made_of (acting c.args.arena.now c.args.board.now) c.args.facts.now (states c.args.drivers.now) c.args.at c.deref.ensures.value c.deref_mut-kept.ensures.value c.deref_mut-kept.ensures.len in
     let can = c.requires.can in
     record { can = (can.0.tree.term, root_view can.0.tree can.0.world, can_visit can.0 m can.1) }
 
 pub end_tick-requires : goal.end_tick-requires
 end_tick-requires g c =
     let states = g.D.Drivers.states in
-    let m = made_of c.args.runner.now c.args.facts.now (states c.args.drivers.now) c.args.at c.deref.ensures.value c.deref_mut-kept.ensures.value c.deref_mut-kept.ensures.len in
+    let m = made_of (acting c.args.arena.now c.args.board.now) c.args.facts.now (states c.args.drivers.now) c.args.at c.deref.ensures.value c.deref_mut-kept.ensures.value c.deref_mut-kept.ensures.len in
     let of = c.requires.can.0 in
     let can = can_visit of m c.requires.can.1 in
     let s1 = scene_on g.D.Drivers.states c.tick-visited.new.stage in
@@ -32,7 +33,7 @@ end_tick-requires g c =
 pub returns-in_err-answer-clause-part : goal.returns-in_err-answer-clause-part
 returns-in_err-answer-clause-part g c = λ of can.
     let states = g.D.Drivers.states in
-    let m = made_of c.args.runner.now c.args.facts.now (states c.args.drivers.now) c.args.at c.deref.ensures.value c.deref_mut-kept.ensures.value c.deref_mut-kept.ensures.len in
+    let m = made_of (acting c.args.arena.now c.args.board.now) c.args.facts.now (states c.args.drivers.now) c.args.at c.deref.ensures.value c.deref_mut-kept.ensures.value c.deref_mut-kept.ensures.len in
     let stage = c.tick-visited.new.stage in
     let s0 = first of m in
     let s1 = scene_on states stage in
@@ -47,7 +48,7 @@ returns-in_err-answer-clause-part g c = λ of can.
 pub returns-in_err-end_tick-clause-part : goal.returns-in_err-end_tick-clause-part
 returns-in_err-end_tick-clause-part g c = λ of can.
     let states = g.D.Drivers.states in
-    let m = made_of c.args.runner.now c.args.facts.now (states c.args.drivers.now) c.args.at c.deref.ensures.value c.deref_mut-kept.ensures.value c.deref_mut-kept.ensures.len in
+    let m = made_of (acting c.args.arena.now c.args.board.now) c.args.facts.now (states c.args.drivers.now) c.args.at c.deref.ensures.value c.deref_mut-kept.ensures.value c.deref_mut-kept.ensures.len in
     let stage = c.tick-visited.new.stage in
     let s0 = first of m in
     let s1 = scene_on states stage in
@@ -70,7 +71,7 @@ returns-in_err-end_tick-clause-part g c = λ of can.
 pub returns-clause-part : goal.returns-clause-part
 returns-clause-part g c = λ of can.
     let states = g.D.Drivers.states in
-    let m = made_of c.args.runner.now c.args.facts.now (states c.args.drivers.now) c.args.at c.deref.ensures.value c.deref_mut-kept.ensures.value c.deref_mut-kept.ensures.len in
+    let m = made_of (acting c.args.arena.now c.args.board.now) c.args.facts.now (states c.args.drivers.now) c.args.at c.deref.ensures.value c.deref_mut-kept.ensures.value c.deref_mut-kept.ensures.len in
     let stage = c.tick-visited.new.stage in
     let s0 = first of m in
     let s1 = scene_on states stage in
@@ -97,7 +98,7 @@ returns-clause-part g c = λ of can.
 pub returns-in_err-answer-clause-fits : goal.returns-in_err-answer-clause-fits
 returns-in_err-answer-clause-fits g c =
     let states = g.D.Drivers.states in
-    let m = made_of c.args.runner.now c.args.facts.now (states c.args.drivers.now) c.args.at c.deref.ensures.value c.deref_mut-kept.ensures.value c.deref_mut-kept.ensures.len in
+    let m = made_of (acting c.args.arena.now c.args.board.now) c.args.facts.now (states c.args.drivers.now) c.args.at c.deref.ensures.value c.deref_mut-kept.ensures.value c.deref_mut-kept.ensures.len in
     let of = c.requires.can.0 in
     let can = c.requires.can.1 in
     let stage = c.tick-visited.new.stage in
@@ -111,7 +112,7 @@ returns-in_err-answer-clause-fits g c =
 pub returns-in_err-end_tick-clause-fits : goal.returns-in_err-end_tick-clause-fits
 returns-in_err-end_tick-clause-fits g c =
     let states = g.D.Drivers.states in
-    let m = made_of c.args.runner.now c.args.facts.now (states c.args.drivers.now) c.args.at c.deref.ensures.value c.deref_mut-kept.ensures.value c.deref_mut-kept.ensures.len in
+    let m = made_of (acting c.args.arena.now c.args.board.now) c.args.facts.now (states c.args.drivers.now) c.args.at c.deref.ensures.value c.deref_mut-kept.ensures.value c.deref_mut-kept.ensures.len in
     let of = c.requires.can.0 in
     let can = c.requires.can.1 in
     let stage = c.tick-visited.new.stage in
@@ -126,7 +127,7 @@ returns-in_err-end_tick-clause-fits g c =
 pub returns-clause-fits : goal.returns-clause-fits
 returns-clause-fits g c =
     let states = g.D.Drivers.states in
-    let m = made_of c.args.runner.now c.args.facts.now (states c.args.drivers.now) c.args.at c.deref.ensures.value c.deref_mut-kept.ensures.value c.deref_mut-kept.ensures.len in
+    let m = made_of (acting c.args.arena.now c.args.board.now) c.args.facts.now (states c.args.drivers.now) c.args.at c.deref.ensures.value c.deref_mut-kept.ensures.value c.deref_mut-kept.ensures.len in
     let of = c.requires.can.0 in
     let can = c.requires.can.1 in
     let stage = c.tick-visited.new.stage in
