@@ -12,5 +12,5 @@ returns-clause-size c =
     ap (λ (es : List (Option Value)). length es) (c.in_ok-open_tree.ensures 0 main_scope)
     ∙ length_with_literals c.args.slots.now.cells (flat_map literals_at (standing_from c.args.tree.now.term 1 0 main_scope)) c.in_ok-entries.entries.items
     ∙ ap (λ (es : List (Option Value)). length es) c.in_ok-entries.ensures
-    ∙ length-replicate c.slot_count.result None
-    ∙ c.slot_count.ensures
+    ∙ length-replicate c.slot_count-count.result None
+    ∙ c.slot_count-count.ensures
