@@ -1,12 +1,12 @@
 -- What a write leaves of the record of an event.
-use Rattle.std.proofs.Common.{◌≡◌, inl, inr, ℕ, ◌<◌, ◌*◌, ◌/◌, ◌%◌, ◌^◌, w64, List, Option, Some, None, true, false, get_or, is_some, length, set, refl, sym, ap, ◌∙◌, arith}
+use Rattle.std.proofs.Common.{◌≡◌, inl, inr, ℕ, ◌<◌, ◌*◌, ◌/◌, ◌%◌, ◌^◌, w64, List, Option, Some, None, true, false, get_or, is_some, length, replicate, set, zero, suc, refl, sym, ap, ◌∙◌, arith}
 use Rattle.std.proofs.lemmas.Bool.{cases_eq}
-use Rattle.std.proofs.lemmas.List.{get_or-set_other, get_or-set_same, length-set}
+use Rattle.std.proofs.lemmas.List.{get_or-set_other, get_or-set_same, length-replicate, length-set}
 use Rattle.std.proofs.lemmas.Nat.Bits.{bit_at_set_other, bit_at_set_same}
 use Rattle.std.specs.Int.{bit_at}
 use Rattle.std.specs.Prelude.{bit_or}
 use Rattle.spec_script.specs.declared.value.Value.{Value}
-use Rattle.tree_board.specs.Records.{AreMarked, IsRecord, held_before}
+use Rattle.tree_board.specs.Records.{AreMarked, IsEmptyRecord, IsRecord, held_before}
 
 -- nothing is kept of a slot whose group has no bit
 clear_slot : (kept : Option (Option Value)) (bit : ℕ) → (is_some kept ≡ true → bit ≡ 1) → bit ≡ 0 → kept ≡ None
@@ -19,6 +19,16 @@ not_kept before groups slot marked clear = clear_slot (get_or before slot None) 
 pub none_from : (kept : Option (Option Value)) → is_some kept ≡ false → kept ≡ None
 none_from None is = refl
 none_from (Some e) is = cc
+
+none_in : {A : Type 0} (count slot : ℕ) → get_or (replicate {A = Option A} count None) slot None ≡ None
+none_in zero slot = refl
+none_in (suc count) zero = refl
+none_in (suc count) (suc slot) = none_in count slot
+
+-- nothing is kept in places that are all empty
+pub empty_record : (entries : List (Option Value)) (places : List (Option (Option Value))) (count : ℕ) → places ≡ replicate count None → length entries ≡ count → IsEmptyRecord entries places
+empty_record entries places count none many =
+    (ap length none ∙ length-replicate count None ∙ sym many, λ slot. ap (λ xs. get_or xs slot None) none ∙ none_in count slot)
 
 -- what a slot held, of which something is kept, does not depend on what it holds
 held_still : (kept : Option (Option Value)) (old new : Option Value) → is_some kept ≡ true → held_before kept old ≡ held_before kept new
