@@ -1,4 +1,5 @@
 pub mod AboutHeld
+pub mod Acting
 pub mod Counting
 pub mod Endings
 pub mod Entries
