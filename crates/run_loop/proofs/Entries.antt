@@ -56,5 +56,21 @@ module _ (runner : ℕ) (olds news : List (Option Value)) (same : length olds �
       skipped (to - from) from (omega (arith, within, later)) (λ slot low high. alike slot low (omega (arith, high, later))) ∙ ap (changed_on runner olds news) e
 
   -- after the last slot there is nothing
-  pub none_after : (slot : ℕ) → length news ≤ slot → changed_entries runner slot (drop slot olds) (drop slot news) ≡ []
+  none_after : (slot : ℕ) → length news ≤ slot → changed_entries runner slot (drop slot olds) (drop slot news) ≡ []
   none_after slot past = λ i. changed_entries runner slot (drop_all slot olds (omega (arith, past, same)) i) (drop_all slot news past i)
+
+  -- the entry of a slot is told, and slots that did not change are passed over
+  pub told_next : (slot to : ℕ) (old new : Option Value) (before after whole : List (ℕ × ℕ × Value)) → slot < length news → old ≡ get_or olds slot None → new ≡ get_or news slot None →
+      slot + 1 ≤ to → to ≤ length news → ((other : ℕ) → slot + 1 ≤ other → other < to → get_or news other None ≡ get_or olds other None) →
+      ((rest : List (ℕ × ℕ × Value)) → after ++ rest ≡ before ++ with_change runner slot old new rest) →
+      before ++ changed_entries runner slot (drop slot olds) (drop slot news) ≡ whole → after ++ changed_entries runner to (drop to olds) (drop to news) ≡ whole
+  told_next slot to old new before after whole within is_old is_new later last alike told all =
+      ap (λ xs. after ++ xs) (sym (passed_over (slot + 1) to later last alike))
+      ∙ told (changed_on runner olds news (slot + 1))
+      ∙ (λ i. before ++ with_change runner slot (is_old i) (is_new i) (changed_on runner olds news (slot + 1)))
+      ∙ ap (λ xs. before ++ xs) (sym (changed_here slot within))
+      ∙ all
+
+  -- all is told after the last slot
+  pub told_all : (slot : ℕ) (after whole : List (ℕ × ℕ × Value)) → length news ≤ slot → after ++ changed_entries runner slot (drop slot olds) (drop slot news) ≡ whole → after ≡ whole
+  told_all slot after whole past all = sym (append-nil after) ∙ ap (λ xs. after ++ xs) (sym (none_after slot past)) ∙ all
