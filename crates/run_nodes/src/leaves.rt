@@ -48,7 +48,11 @@ fn see_inputs<P: Past>(sources: &[Source], board: &Recorded<P>, inputs: &mut Inp
 }
 
 /// A copy of the value that a port is given; none where it has none. The error is want of memory.
-fn copy_value<P: Past>(alloc: Global, source: &Source, board: &Recorded<P>) -> Result<Option<Value>, NoMemory>
+fn copy_value<P: Past>(
+    alloc: Global,
+    source: &Source,
+    board: &Recorded<P>,
+) -> Result<Option<Value>, NoMemory>
     requires { IsSourceOf (length board.now) source.now }
     ensures { IfOk result (λ value. value ≡ source_value board.now source.now) }
 {
@@ -142,7 +146,12 @@ fn write_value<P: Past>(source: &Source, value: Option<Value>, board: &mut Recor
 
 /// Writes the values that were told for outputs of these names, in the order of the names, each where a slot is given:
 /// each value is moved, and nothing is copied.
-fn write_told<P: Past>(names: &[Name], sources: &[Source], mut told: Vec<ToldOut>, board: &mut Recorded<P>)
+fn write_told<P: Past>(
+    names: &[Name],
+    sources: &[Source],
+    mut told: Vec<ToldOut>,
+    board: &mut Recorded<P>,
+)
     requires read { All (IsSourceOf (length board.old)) sources.now }
     requires names { IsDistinct bytes_eq names.now }
     ensures written { board.new ≡ told_written names.now sources.now told.items board.old }
@@ -315,7 +324,11 @@ fn write_answer<P: Past>(reply: Reply, leaf: &ReadyLeaf, outs: &mut Outs, board:
 
 /// Calls the driver of a leaf of this status with its inputs, and writes its outputs.
 #[inline(always)]
-fn make_call<D: Drivers, P: Past>(stage: &mut Stage<D, P>, leaf: &ReadyLeaf, status: Status) -> Reply
+fn make_call<D: Drivers, P: Past>(
+    stage: &mut Stage<D, P>,
+    leaf: &ReadyLeaf,
+    status: Status,
+) -> Reply
     requires { CallableOn D.states stage.old status leaf.now }
     ensures reply { result ≡ (answer_on D.states stage.old status leaf.now).reply }
     ensures asked { WasAsked D.states status leaf.now (answer_on D.states stage.old status leaf.now) stage.old stage.new }

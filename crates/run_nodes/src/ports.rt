@@ -375,7 +375,12 @@ fn pick<P: Past>(node: &Node, memo: Memo, board: &Recorded<P>) -> Result<u32, Po
 /// What is picked for a visit of the node with this uid: for a Switch the place of the selected
 /// child, and for a RunOnce with a mark 1 where it skips. The error is the fault of its port.
 #[inline(always)]
-pub fn picked<P: Past>(node: &Node, uid: u32, memo: Memo, board: &Recorded<P>) -> Result<u32, NodeFault>
+pub fn picked<P: Past>(
+    node: &Node,
+    uid: u32,
+    memo: Memo,
+    board: &Recorded<P>,
+) -> Result<u32, NodeFault>
     requires { HasPorts (length board.now) node.now }
     ensures { (term : Term-F Meaning) (view : View) (whole : ℕ) (s : State) → IsNode view (written term) whole node.now →
         result ≡ or_bad_port uid (picked term.kind (site_of term view uid) memo (record s { board = board.now })) }

@@ -67,7 +67,12 @@ pub fn run_script<P: Past>(
 /// scripts give a number at once and do not come here. The error is a fault of the script, or want
 /// of memory.
 #[inline(never)]
-fn run_whole<P: Past>(alloc: Global, code: &Code, uid: u32, board: &mut Recorded<P>) -> Result<(), Stop<NodeFault>>
+fn run_whole<P: Past>(
+    alloc: Global,
+    code: &Code,
+    uid: u32,
+    board: &mut Recorded<P>,
+) -> Result<(), Stop<NodeFault>>
     requires { needed code.now ≤ length board.old }
     ensures settles { (term : Term-F Meaning) (view : View) (script : Script) (s : State) → IsCodeOf view script code.now →
         Settles result (on_board board.new s) (script_if_there (site_of term view uid) (Some script) (on_board board.old s)) }

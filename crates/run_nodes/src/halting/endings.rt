@@ -85,7 +85,10 @@ fn come_to_rest<D: Drivers, P: Past>(stage: &mut Stage<D, P>, uid: u32) -> Resul
 
 /// The end of a halt, after the resets of the children. The error is a fault of `_onHalted`, or
 /// want of memory.
-pub(crate) fn end_halt<D: Drivers, P: Past>(stage: &mut Stage<D, P>, uid: u32) -> Result<(), Stop<NodeFault>>
+pub(crate) fn end_halt<D: Drivers, P: Past>(
+    stage: &mut Stage<D, P>,
+    uid: u32,
+) -> Result<(), Stop<NodeFault>>
     requires fits { (term : Term) × (view : View) × FitsOn D.states stage.old uid term view }
     requires running { (kept_at stage.old.kept.now uid).status ≡ Running }
     requires held { LeafIsHeldOn stage.old uid }
