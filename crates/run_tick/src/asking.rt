@@ -49,7 +49,10 @@ pub(crate) fn asks_first<D: Drivers, P: Past>(stage: &Stage<D, P>, uid: u32) -> 
 /// Starts the node with this uid, which asks first: it waits for its first child. The error is want
 /// of memory.
 #[inline(always)]
-fn start_asking<D: Drivers, P: Past>(stage: &mut Stage<D, P>, uid: u32) -> Result<(), Stop<NodeFault>>
+fn start_asking<D: Drivers, P: Past>(
+    stage: &mut Stage<D, P>,
+    uid: u32,
+) -> Result<(), Stop<NodeFault>>
     requires can { (term : Term) × (view : View) × CanVisitOn D.states stage.old uid term view }
     requires rests { is_running (kept_at stage.old.kept.now uid).status ≡ false }
     requires asks { AsksFirst stage.old.nodes.now uid }
@@ -73,7 +76,10 @@ fn start_asking<D: Drivers, P: Past>(stage: &mut Stage<D, P>, uid: u32) -> Resul
 /// Visits the leaf with this uid, before whose visit no guard comes. The error is its fault, or want
 /// of memory.
 #[inline(always)]
-fn visit_leaf<D: Drivers, P: Past>(stage: &mut Stage<D, P>, uid: u32) -> Result<Answer, Stop<NodeFault>>
+fn visit_leaf<D: Drivers, P: Past>(
+    stage: &mut Stage<D, P>,
+    uid: u32,
+) -> Result<Answer, Stop<NodeFault>>
     requires can { (term : Term) × (view : View) × CanVisitOn D.states stage.old uid term view }
     requires leaf { (node_at stage.old.nodes.now uid).kind ≡ Leaf }
     requires unguarded { (node_at stage.old.nodes.now uid).guards.before ≡ false }
@@ -107,7 +113,10 @@ fn settle<D: Drivers, P: Past>(stage: &mut Stage<D, P>, uid: u32) -> Result<Answ
 /// of memory. It says what `start` and `begin_rule` say of such a node, and spares its frame and most
 /// of its turns.
 #[inline(always)]
-pub(crate) fn ask<D: Drivers, P: Past>(stage: &mut Stage<D, P>, uid: u32) -> Result<Entered, Stop<NodeFault>>
+pub(crate) fn ask<D: Drivers, P: Past>(
+    stage: &mut Stage<D, P>,
+    uid: u32,
+) -> Result<Entered, Stop<NodeFault>>
     requires can { (term : Term) × (view : View) × CanVisitOn D.states stage.old uid term view }
     requires rests { is_running (kept_at stage.old.kept.now uid).status ≡ false }
     requires asks { AsksFirst stage.old.nodes.now uid }

@@ -38,7 +38,10 @@ fn starts(kind: Kind, memo: Memo) -> bool
 /// Begins the rule of the node with this uid, which has children. The answer says what is picked
 /// for the visit; the error is the fault of the port that decides it.
 #[inline(always)]
-fn begin_rule<D: Drivers, P: Past>(stage: &Stage<D, P>, uid: u32) -> Result<Entered, Stop<NodeFault>>
+fn begin_rule<D: Drivers, P: Past>(
+    stage: &Stage<D, P>,
+    uid: u32,
+) -> Result<Entered, Stop<NodeFault>>
     requires can { (term : Term) × (view : View) × CanFollowOn D.states stage.now uid term view }
     requires ruled { has_rule (node_at stage.now.nodes.now uid).kind ≡ true }
     ensures goes { let s = stage.now in (term : Term) (view : View) → CanFollowOn D.states s uid term view →
@@ -56,7 +59,10 @@ fn begin_rule<D: Drivers, P: Past>(stage: &Stage<D, P>, uid: u32) -> Result<Ente
 /// children goes on by moves, and any other has its whole visit. The error is a fault, or want of
 /// memory (out of memory).
 #[inline(always)]
-fn follow_rule<D: Drivers, P: Past>(stage: &mut Stage<D, P>, uid: u32) -> Result<Entered, Stop<NodeFault>>
+fn follow_rule<D: Drivers, P: Past>(
+    stage: &mut Stage<D, P>,
+    uid: u32,
+) -> Result<Entered, Stop<NodeFault>>
     requires can { (term : Term) × (view : View) × CanFollowOn D.states stage.old uid term view }
     ensures goes { (term : Term) (view : View) → CanFollowOn D.states stage.old uid term view →
         TakesTurn D.states stage.old stage.new uid term view
@@ -142,7 +148,10 @@ fn begin<D: Drivers, P: Past>(stage: &mut Stage<D, P>, uid: u32) -> Result<Enter
 /// Goes on with the node with this uid, which is RUNNING, or halts it where its `_while` is false,
 /// and answers SKIPPED. The error is a fault, or want of memory.
 #[inline(always)]
-fn resume<D: Drivers, P: Past>(stage: &mut Stage<D, P>, uid: u32) -> Result<Entered, Stop<NodeFault>>
+fn resume<D: Drivers, P: Past>(
+    stage: &mut Stage<D, P>,
+    uid: u32,
+) -> Result<Entered, Stop<NodeFault>>
     requires can { (term : Term) × (view : View) × CanVisitOn D.states stage.old uid term view }
     requires running { (kept_at stage.old.kept.now uid).status ≡ Running }
     ensures goes { (term : Term) (view : View) → CanVisitOn D.states stage.old uid term view →
@@ -163,7 +172,10 @@ fn resume<D: Drivers, P: Past>(stage: &mut Stage<D, P>, uid: u32) -> Result<Ente
 /// Visits the node with this uid, up to its answer or to where it goes on by moves. The error is a
 /// fault, or want of memory.
 #[inline(always)]
-pub(crate) fn enter<D: Drivers, P: Past>(stage: &mut Stage<D, P>, uid: u32) -> Result<Entered, Stop<NodeFault>>
+pub(crate) fn enter<D: Drivers, P: Past>(
+    stage: &mut Stage<D, P>,
+    uid: u32,
+) -> Result<Entered, Stop<NodeFault>>
     requires can { (term : Term) × (view : View) × CanVisitOn D.states stage.old uid term view }
     ensures goes { (term : Term) (view : View) → CanVisitOn D.states stage.old uid term view →
         TakesTurn D.states stage.old stage.new uid term view

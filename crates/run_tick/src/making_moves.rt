@@ -70,7 +70,11 @@ fn reset_before<D: Drivers, P: Past>(
 /// do when they begin and after most answers. The frame is then that of the visit of this child, and
 /// else it stays.
 #[inline(always)]
-pub(crate) fn goes_on_at_once<D: Drivers, P: Past>(stage: &Stage<D, P>, frame: &mut Frame, heard: Heard) -> bool
+pub(crate) fn goes_on_at_once<D: Drivers, P: Past>(
+    stage: &Stage<D, P>,
+    frame: &mut Frame,
+    heard: Heard,
+) -> bool
     requires can { (term : Term) × (view : View) × (rest : Done AnswerGiven Memory) ×
         StepsOn D.states stage.now term view (step_of frame.old heard) rest }
     ensures goes { IsTrue result → (term : Term) (view : View) (rest : Done AnswerGiven Memory) →

@@ -75,7 +75,11 @@ fn push_frame(stack: &mut Vec<Frame>, frame: Frame) -> Result<(), NoMemory>
 /// The uid of the child that the node on top of the stack goes on to with what it hears, where it
 /// does no more than that. Its frame is then that of the visit of this child, and else it stays.
 #[inline(always)]
-fn next_at_once<D: Drivers, P: Past>(stage: &Stage<D, P>, stack: &mut Vec<Frame>, heard: Heard) -> Option<u32>
+fn next_at_once<D: Drivers, P: Past>(
+    stage: &Stage<D, P>,
+    stack: &mut Vec<Frame>,
+    heard: Heard,
+) -> Option<u32>
     requires going { (root : Term) × (start : Scene) × (told : List Note) × (whole : Done AnswerGiven Memory) ×
         CameOn D.states stage.now root (next.GoOn heard) stack.old.items start told whole }
     ensures came { MatchOption result (stack.new.items ≡ stack.old.items) (λ child.

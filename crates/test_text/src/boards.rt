@@ -186,9 +186,11 @@ fn put_both<P: Past>(alloc: Global, board: Board) -> Result<String, NoMemory>
         told.push_str(format!(in alloc; "{:?} ", board.get(slot))?.as_str())?;
     }
     for slot in 0..6 {
-        told.push_str(
-            format!(in alloc; "{} {:?} ", board.next_written(slot), board.past(slot))?.as_str(),
-        )?;
+        told.push_str(format!(in alloc;
+            "{} {:?} ",
+            board.next_written(slot),
+            board.past(slot)
+        )?.as_str())?;
     }
     told.push_str(format!(in alloc; "{:?}", board.close().list())?.as_str())?;
     Ok(told)
