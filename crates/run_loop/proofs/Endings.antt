@@ -1,5 +1,5 @@
 -- A quench of runs, and what was told of them.
-use Rattle.std.proofs.Common.{◌≡◌, ℕ, ℤ, List, ◌++◌, OnOk, Result, Ok, Err, sym, ap, subst, ◌∙◌}
+use Rattle.std.proofs.Common.{◌≡◌, ℕ, ℤ, List, ◌++◌, Result, sym, ap, subst, ◌∙◌}
 use Rattle.std.specs.Global.{Vec}
 use Rattle.base_texts.specs.declared.stop.NoMemory.{NoMemory}
 use Rattle.spec_script.specs.declared.value.Value.{Value}
@@ -47,10 +47,3 @@ telling_of entries f0 f1 t0 t1 told begun other block same_facts same_told heade
   changed = t.changed ∙ (λ i. (facts i).items ++ changed_from 0 (same_told i) (same_facts i));
   told = t.told ∙ same_facts;
 }
-
--- where the entries were told, what changed is told with the facts
-pub told_in : (result entries : Result (Unit {0}) NoMemory) (facts old new : List ℤ) (before after : Block) → entries ≡ Ok tt → after ≡ record before { facts = after.facts } →
-    OnOk result (after.facts.items ≡ before.facts.items ++ changed_from 0 old facts) → OnOk result (new ≡ facts) → OnOk result (IsTelling entries facts old new before after)
-told_in (Ok a) entries facts old new before after is rest changed told =
-    record { is_told = is; header = ap (λ (b : Block). b.header) rest; entries = ap (λ (b : Block). b.entries.items) rest; changed = changed; told = told }
-told_in (Err e) entries facts old new before after is rest changed told = tt

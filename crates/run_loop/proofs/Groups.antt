@@ -35,8 +35,9 @@ one_changed first (o ∷ olds) (suc k) value d low =
 pub one_told : (result : Result (Unit {0}) NoMemory) (fact : ℕ) (olds : List ℤ) (old value d : ℤ) (before after : List (ℕ × ℤ)) → fact < length olds → old ≡ get_or olds fact d →
     OnOk result ((rest : List (ℕ × ℤ)) → after ++ rest ≡ before ++ with_fact fact old value rest) → OnOk result (after ≡ before ++ changed_from 0 olds (set olds fact value))
 one_told result fact olds old value d before after low is =
+    let same : fact ≡ 0 + fact = omega arith in
     ok_gives result (λ (told : (rest : List (ℕ × ℤ)) → after ++ rest ≡ before ++ with_fact fact old value rest).
-    sym (append-nil after) ∙ told [] ∙ ap (λ o. before ++ with_fact fact o value []) is ∙ ap (λ changes. before ++ changes) (sym (one_changed 0 olds fact value d low)))
+    sym (append-nil after) ∙ told [] ∙ (λ i. before ++ with_fact (same i) (is i) value []) ∙ ap (λ changes. before ++ changes) (sym (one_changed 0 olds fact value d low)))
 
 added : (b : Bool) (e : ℕ × ℤ) (xs ys zs : List (ℕ × ℤ)) → xs ≡ ys ++ zs → (if b then xs else e ∷ xs) ≡ (if b then ys else e ∷ ys) ++ zs
 added true e xs ys zs same = same

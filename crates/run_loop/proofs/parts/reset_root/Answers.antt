@@ -34,7 +34,7 @@ returns-clause-part g c = λ of can.
     let back = given_back of m s1 can c.reset-done.ensures.keeps.stays c.lent_back.new.kept (ap length lent) ∙ lent in
     let visit = can_visit of m can in
     part_seen of m
-    Halt c.reset-done.result s1 _ c.args.notes.now.list stage.notes.now.list _ (scene_as back refl (search rules) (ap states (search rules))) (search rules)
+    Halt c.reset-done.result s1 _ c.args.notes.now.list stage.notes.now.list _ (scene_as back (search rules) (search rules) (ap states (search rules))) (search rules)
     (c.reset-done.ensures.meets of.tree.term (root_view of.tree of.world) visit.fits)
 
 pub returns-clause-fits : goal.returns-clause-fits
@@ -47,5 +47,5 @@ returns-clause-fits g c =
     let s1 = scene_on states stage in
     let lent : c.lent_back.new.kept ≡ stage.kept.now = search rules in
     let back = given_back of m s1 can c.reset-done.ensures.keeps.stays c.lent_back.new.kept (ap length lent) ∙ lent in
-    stays_seen of m s1 _ (scene_as back refl (search rules) (ap states (search rules)))
+    stays_seen of m s1 _ (scene_as back (search rules) (search rules) (ap states (search rules)))
     c.reset-done.ensures.keeps.stays

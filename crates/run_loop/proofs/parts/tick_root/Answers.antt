@@ -41,7 +41,7 @@ returns-in_err-answer-clause-part g c = λ of can.
     let back = given_back of m s1 can c.tick-visited.ensures.fits c.lent_back.new.kept (ap length lent) ∙ lent in
     let made = can_visit of m can in
     part_seen of m
-    Tick c.from_residual.result s1 _ c.args.notes.now.list stage.notes.now.list _ (scene_as back refl (search rules) (ap states (search rules))) (search rules)
+    Tick c.from_residual.result s1 _ c.args.notes.now.list stage.notes.now.list _ (scene_as back (search rules) (search rules) (ap states (search rules))) (search rules)
     (tick_stopped of.tree.term (root_view of.tree of.world) m.nodes c.args.at m.runner.arena.runner s0 s1 c.args.notes.now.list stage.notes.now.list _ _ c.from_residual.result (stops_with c.from_residual.result _ c.from_residual.ensures.1)
     (c.in_err-answer.ensures.meets of.tree.term (root_view of.tree of.world) made))
 
@@ -62,7 +62,7 @@ returns-in_err-end_tick-clause-part g c = λ of can.
     e.2 ∙ (λ i. root_notes m.runner.arena.runner c.in_ok-answer.answer (kept_at (lent i) 1).status) in
     let noted : c.end_tick.new.notes.list ≡ stage.notes.now.list ++ e.0 = e.4 ∙ told_as e.0 (search rules) in
     part_seen of m
-    Tick c.from_residual-in_err-end_tick.result s2 _ c.args.notes.now.list c.end_tick.new.notes.list c.end_tick.new.notes.list (scene_as back refl (search rules) (ap states (search rules))) refl
+    Tick c.from_residual-in_err-end_tick.result s2 _ c.args.notes.now.list c.end_tick.new.notes.list c.end_tick.new.notes.list (scene_as back (search rules) (search rules) (ap states (search rules))) refl
     (rw (stops_with c.from_residual-in_err-end_tick.result stop.NoMemory c.from_residual-in_err-end_tick.ensures.1)
     (tick_followed of.tree.term (root_view of.tree of.world) m.nodes c.args.at m.runner.arena.runner s0 s1 c.args.notes.now.list stage.notes.now.list _ c.in_ok-answer.answer (Err stop.NoMemory) s2 c.end_tick.new.notes.list
     (c.in_ok-answer.ensures.meets of.tree.term (root_view of.tree of.world) made)
@@ -88,7 +88,7 @@ returns-clause-part g c = λ of can.
     c.in_ok-end_tick.ensures.notes ∙ told_as (root_notes m.runner.arena.runner c.in_ok-answer.answer (kept_at c.lent_back.new.kept 1).status) (search rules)
     ∙ (λ i. stage.notes.now.list ++ root_notes m.runner.arena.runner c.in_ok-answer.answer (kept_at (lent i) 1).status) in
     part_seen of m
-    Tick (Ok tt) s2 _ c.args.notes.now.list c.end_tick.new.notes.list c.end_tick.new.notes.list (scene_as back refl (search rules) (ap states (search rules))) refl
+    Tick (Ok tt) s2 _ c.args.notes.now.list c.end_tick.new.notes.list c.end_tick.new.notes.list (scene_as back (search rules) (search rules) (ap states (search rules))) refl
     (tick_followed of.tree.term (root_view of.tree of.world) m.nodes c.args.at m.runner.arena.runner s0 s1 c.args.notes.now.list stage.notes.now.list _ c.in_ok-answer.answer (Ok tt) s2 c.end_tick.new.notes.list
     (c.in_ok-answer.ensures.meets of.tree.term (root_view of.tree of.world) made)
     (end_told of.tree.term m.nodes c.args.at m.runner.arena.runner c.in_ok-answer.answer s1 s2 stage.notes.now.list c.end_tick.new.notes.list
@@ -106,7 +106,7 @@ returns-in_err-answer-clause-fits g c =
     let s1 = scene_on states stage in
     let lent : c.lent_back.new.kept ≡ stage.kept.now = search rules in
     let back = given_back of m s1 can c.tick-visited.ensures.fits c.lent_back.new.kept (ap length lent) ∙ lent in
-    stays_seen of m s1 _ (scene_as back refl (search rules) (ap states (search rules)))
+    stays_seen of m s1 _ (scene_as back (search rules) (search rules) (ap states (search rules)))
     c.tick-visited.ensures.fits
 
 pub returns-in_err-end_tick-clause-fits : goal.returns-in_err-end_tick-clause-fits
@@ -121,7 +121,7 @@ returns-in_err-end_tick-clause-fits g c =
     let lent : c.lent_back.new.kept ≡ stage.kept.now = search rules in
     let same : c.end_tick.new.kept ≡ stage.kept.now = c.in_err-end_tick.ensures.err ∙ lent in
     let back = given_back of m s1 can c.tick-visited.ensures.fits c.end_tick.new.kept (ap length same) ∙ same in
-    stays_seen of m s1 _ (scene_as back refl (search rules) (ap states (search rules)))
+    stays_seen of m s1 _ (scene_as back (search rules) (search rules) (ap states (search rules)))
     c.tick-visited.ensures.fits
 
 pub returns-clause-fits : goal.returns-clause-fits
@@ -141,5 +141,5 @@ returns-clause-fits g c =
     let s2 = record s1 { kept = c.end_tick.new.kept } in
     let as_new = ap length left ∙ length-set stage.kept.now 1 (record root { status = settled root.status }) in
     let back = given_back of m s1 can c.tick-visited.ensures.fits c.end_tick.new.kept as_new in
-    stays_seen of m s2 _ (scene_as back refl (search rules) (ap states (search rules)))
+    stays_seen of m s2 _ (scene_as back (search rules) (search rules) (ap states (search rules)))
     (λ term view uid fits. stays_fit m.nodes 1 (record root { status = settled root.status }) s1 s2 left refl refl refl refl term view uid (c.tick-visited.ensures.fits term view uid fits))
