@@ -1,4 +1,4 @@
-ghost use Rattle.std.specs.Prelude.{◌≡◌, ◌≤◌, ◌<◌, ◌+◌, [], OnOk, OnErr, Ok, Err, false, length, map};
+ghost use Rattle.std.specs.Prelude.{◌≡◌, ◌≤◌, ◌<◌, ◌+◌, ℕ, [], OnOk, OnErr, Ok, Err, false, length, map};
 ghost use Rattle.base_texts.specs.declared.stop.Stop.TheVariants as stop;
 ghost use Rattle.spec_run.specs.Drivers.{NothingHeld};
 ghost use Rattle.spec_run.specs.Run.{change_step, finish as finish_step, step};
