@@ -7,7 +7,9 @@ mod board;
 mod keys;
 mod limit;
 mod naming;
+mod numbers;
 mod order;
+mod rows;
 mod scope;
 mod slots;
 
