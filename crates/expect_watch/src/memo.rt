@@ -10,11 +10,10 @@ use crate::held::are_together;
 use crate::notes::{is_end, is_root, is_start};
 use crate::testing::{is_so, test_of};
 use base_texts::{Items, NoMemory};
-use run_driver::{FactTable, ReadyExpr};
+use run_driver::{FactPlaces, FactTable, ReadyExpr};
 use spec_expect::Expectation;
 use spec_run::{Answer, Note};
 use spec_script::{Cmp, Expr};
-use spec_world::Fact;
 use std::alloc::Global;
 
 /// An expectation with what is kept of the run for it.
@@ -97,7 +96,7 @@ fn at_of(
     alloc: Global,
     ms: u64,
     expr: Expr,
-    names: &[Fact],
+    names: &FactPlaces,
     facts: &FactTable,
 ) -> Result<Memo, NoMemory>
     requires over { IsOver names.now (ExpectationOf.At ms expr) }
@@ -120,7 +119,7 @@ fn at_of(
 pub fn memo_of(
     alloc: Global,
     expectation: Expectation,
-    names: &[Fact],
+    names: &FactPlaces,
     facts: &FactTable,
 ) -> Result<Memo, NoMemory>
     requires over { IsOver names.now expectation }

@@ -5,9 +5,9 @@ ghost use Rattle.run_driver.specs.Ready.{expr_reach};
 ghost use Rattle.expect_watch.specs.Tests.{is_ready_so};
 
 use base_texts::{Items, Name, NoMemory};
-use run_driver::{FactTable, ReadyExpr, ReadyRow, ReadySort, ready};
+use run_driver::{FactPlaces, FactTable, ReadyExpr, ReadyRow, ReadySort, ready};
 use spec_script::{Expr, Seen};
-use spec_world::{Fact, Row, RowSort};
+use spec_world::{Row, RowSort};
 use std::alloc::Global;
 
 /// Whether an expression over facts is true of these. A fault is not true.
@@ -36,7 +36,7 @@ fn condition_of(alloc: Global, expr: Expr) -> Row
 }
 
 /// An expression over facts, made ready as that of a condition is. The error is want of memory.
-pub fn test_of(alloc: Global, expr: Expr, facts: &[Fact]) -> Result<ReadyExpr, NoMemory>
+pub fn test_of(alloc: Global, expr: Expr, facts: &FactPlaces) -> Result<ReadyExpr, NoMemory>
     requires over { IsExprOver [] (names_of_facts facts.now) expr }
     requires few { length facts.now ≤ 1024 }
     ensures test { IfOk result (λ ready. is_ready_so ready ≡ met.is_so facts.now expr) }

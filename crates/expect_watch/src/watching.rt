@@ -15,11 +15,11 @@ use crate::memo::{Memo, memo_of};
 use crate::notes::{event_moment, event_runner, runner_of};
 use base_texts::{Items, Name, NoMemory};
 use run_arena::Block;
-use run_driver::{FactTable, facts_of};
+use run_driver::{FactPlaces, FactTable, facts_of, places_of};
 use spec_expect::{Expected, Verdict};
 use spec_run::{Answer, Note};
 use spec_tree::{Kind, Term, Tree};
-use spec_world::{Fact, Row, Set, World};
+use spec_world::{Row, Set, World};
 use std::alloc::Global;
 
 /// An expectation that is watched.
@@ -104,7 +104,7 @@ fn effects_in(alloc: Global, tree: &Tree, rows: &[Row]) -> Result<Vec<Items<Set>
 fn watched_of(
     alloc: Global,
     expected: Expected,
-    names: &[Fact],
+    names: &FactPlaces,
     facts: &FactTable,
 ) -> Result<Watched, NoMemory>
     requires over { IsOver names.now expected.expectation }
@@ -127,7 +127,7 @@ fn watched_of(
 fn watch_all(
     alloc: Global,
     expected: Items<Expected>,
-    names: &[Fact],
+    names: &FactPlaces,
     facts: &FactTable,
 ) -> Result<Vec<Watched>, NoMemory>
     requires over { AreOver names.now expected }
@@ -157,7 +157,8 @@ pub fn watching_of(
 {
     let facts = facts_of(alloc, world)?;
     let effects = effects_in(alloc, tree, world.rows.list())?;
-    let watched = watch_all(alloc, expected, world.facts.list(), &facts)?;
+    let names = places_of(alloc, world.facts.list())?;
+    let watched = watch_all(alloc, expected, &names, &facts)?;
     Ok(Watching {
         watched,
         facts,

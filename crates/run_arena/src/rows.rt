@@ -9,8 +9,8 @@ ghost use Rattle.run_arena.specs.Rows.{AreReady, Finds, TellsEachOnce};
 
 use base_texts::{Items, Name, NoMemory, Shared};
 use indexmap::IndexMap;
-use run_driver::{ReadyRow, ready};
-use spec_world::{Fact, Row, World};
+use run_driver::{FactPlaces, ReadyRow, places_of, ready};
+use spec_world::{Row, World};
 use std::alloc::Global;
 use std::marker::Model;
 
@@ -113,7 +113,7 @@ fn index_of(alloc: Global, rows: &[Row]) -> Result<IndexMap<Name, u32>, NoMemory
 fn ready_rows(
     alloc: Global,
     rows: &[Row],
-    facts: &[Fact],
+    facts: &FactPlaces,
 ) -> Result<Items<Shared<ReadyRow>>, NoMemory>
     requires can { All (CanBeReady facts.now) rows.now }
     requires once { All TellsEachOnce rows.now }
@@ -132,9 +132,10 @@ pub fn index_world(alloc: Global, world: &World) -> Result<IndexedWorld, NoMemor
     ensures { IfOk result (λ indexed. indexed ≡ world.now) }
 {
     let rows = world.rows.list();
+    let facts = places_of(alloc, world.facts.list())?;
     Ok(IndexedWorld {
         world,
         numbers: index_of(alloc, rows)?,
-        ready: ready_rows(alloc, rows, world.facts.list())?,
+        ready: ready_rows(alloc, rows, &facts)?,
     })
 }

@@ -1,11 +1,11 @@
 -- Names with the places that the leaf rule gives them.
-use Rattle.std.proofs.Common.{◌≡◌, ℕ, ◌+◌, ◌<◌, ◌≤◌, true, false, if◌then◌else◌, List, [], ◌∷◌, length, map, inl, inr, refl, ap, sym, subst, ◌∙◌, arith}
+use Rattle.std.proofs.Common.{◌≡◌, ℕ, ◌+◌, ◌<◌, ◌≤◌, true, false, Bool, if◌then◌else◌, List, [], ◌∷◌, Option, Some, None, length, drop, get_or, refl, ap, sym, subst, ◌∙◌, arith}
+use Rattle.std.specs.Prelude.{unwrap_or}
 use Rattle.std.specs.List.{All, Contains}
+use Rattle.std.specs.Option.{option_or}
 use Rattle.std.specs.Str.{bytes_eq}
-use Rattle.std.proofs.lemmas.List.{length-map}
-use Rattle.std.proofs.lemmas.List.Elements.{All-nil, All-cons, All-contains, All-contains_itself, All-map, All-weaker, Contains-append_cases}
-use Rattle.std.proofs.lemmas.Slice.Eq.{bytes_eq-Decides}
-use Rattle.script_code.specs.Sources.{IsListed, slot_of}
+use Rattle.std.proofs.lemmas.List.{drop_more, length-map}
+use Rattle.std.proofs.lemmas.List.Elements.{All-contains_itself, All-weaker}
 use Rattle.spec_world.specs.declared.world.Fact.{Fact}
 use Rattle.spec_run.specs.Drivers.{kind_of_sort}
 use Rattle.base_tables.specs.DriverCalls.{kind_of_way}
@@ -13,39 +13,30 @@ use Rattle.spec_run.specs.Leaf.{place_from, place_of, way_of}
 use Rattle.spec_world.specs.Worlds.{names_of_facts}
 use Rattle.spec_world.specs.declared.world.RowSort.{RowSort}
 use Rattle.spec_world.specs.declared.world.RowSort.TheVariants as sort
-use Rattle.run_driver.specs.Places.{with_places}
 
--- ---- names with places
+-- ---- facts that are added one by one
 
-module _ (place : List ℕ → ℕ) where
-  listed : (names : List (List ℕ)) → map (λ (pair : List ℕ × ℕ). pair.0) (with_places place names) ≡ names
-  listed [] = refl
-  listed (name ∷ names) = ap (λ ns. name ∷ ns) (listed names)
+-- one more fact has its place
+placed_first : (first place other : ℕ) (b : Bool) (old : Option ℕ) → place ≡ first →
+    unwrap_or (option_or old (if b then Some place else None)) other ≡ unwrap_or old (if b then first else other)
+placed_first first place other b (Some n) same = refl
+placed_first first place other true None same = same
+placed_first first place other false None same = refl
 
-  -- each of these names is listed
-  pub all_listed : (names : List (List ℕ)) → All (IsListed (with_places place names)) names
-  all_listed names = subst (λ (ns : List (List ℕ)). All (Contains ns) names) (sym (listed names)) (All-contains_itself names)
+-- the places so far, with those of the facts still to come
+abbrev pub ArePlacesFrom : List Fact → List Fact → ℕ → (List ℕ → Option ℕ) → Type 0
+ArePlacesFrom facts left next place = (name : List ℕ) → unwrap_or (place name) (place_from next (names_of_facts left) name 0) ≡ place_from 8 (names_of_facts facts) name 0
 
-  true_not_false : true ≡ false → ⊥
-  true_not_false is = cc
-
-  -- each of these names has its place
-  found : (names : List (List ℕ)) (name : List ℕ) → Contains names name → slot_of (with_places place names) name ≡ place name
-  found [] name has = absurd (omega (arith, has.1))
-  found (key ∷ keys) name has =
-      elim (bytes_eq key name) as (λ b. bytes_eq key name ≡ b → (if b then place key else slot_of (with_places place keys) name) ≡ place name) [
-        | true ↦ λ is. ap place ((bytes_eq-Decides key name).0 is)
-        | false ↦ λ is. elim (Contains-append_cases (key ∷ []) keys name has) [
-          | inl here ↦
-              let same : name ≡ key = All-contains (λ x. x ≡ key) (key ∷ []) name (All-cons (λ x. x ≡ key) key [] refl (All-nil (λ x. x ≡ key))) here in
-              let equal : bytes_eq key name ≡ true = (bytes_eq-Decides key name).1 (sym same) in
-              absurd (true_not_false (sym equal ∙ is))
-          | inr there ↦ found keys name there
-        ]
-      ] refl
-
-  pub all_found : (names : List (List ℕ)) → All (λ name. slot_of (with_places place names) name ≡ place name) names
-  all_found names = All-weaker (Contains names) (λ name. slot_of (with_places place names) name ≡ place name) (found names) names (All-contains_itself names)
+pub places_more : (facts : List Fact) (number place : ℕ) (fact : Fact) (old new : List ℕ → Option ℕ) → number < length facts → fact ≡ get_or facts number fact → place ≡ 8 + number
+    → ((name : List ℕ) → new name ≡ option_or (old name) (if bytes_eq fact.name name then Some place else None))
+    → ArePlacesFrom facts (drop number facts) place old → ArePlacesFrom facts (drop (number + 1) facts) (place + 1) new
+places_more facts number place fact old new within is_fact same added found name =
+    let left = drop (number + 1) facts in
+    let here : drop number facts ≡ fact ∷ left = drop_more facts number fact within ∙ ap (λ (f : Fact). f ∷ left) (sym is_fact) in
+    let rest = place_from (place + 1) (names_of_facts left) name 0 in
+    ap (λ (o : Option ℕ). unwrap_or o rest) (added name)
+    ∙ placed_first place place rest (bytes_eq fact.name name) (old name) refl
+    ∙ subst (λ (fs : List Fact). unwrap_or (old name) (place_from place (names_of_facts fs) name 0) ≡ place_from 8 (names_of_facts facts) name 0) here (found name)
 
 -- ---- the places of a row's names
 
@@ -65,11 +56,9 @@ place_below ports facts few name =
     (place_within (8 + length facts) 8 (names_of_facts facts) name 0 (omega (arith, length-map facts (λ (f : Fact). f.name))) (omega arith))
 
 -- so does each of some names
-pub places_below : (ports : List (List ℕ)) (facts : List Fact) → length ports ≤ 8 → (names : List (List ℕ)) →
-    All (λ (pair : List ℕ × ℕ). pair.1 < 8 + length facts) (with_places (place_of ports facts) names)
+pub places_below : (ports : List (List ℕ)) (facts : List Fact) → length ports ≤ 8 → (names : List (List ℕ)) → All (λ name. place_of ports facts name < 8 + length facts) names
 places_below ports facts few names =
-    All-map (λ (pair : List ℕ × ℕ). pair.1 < 8 + length facts) (λ (name : List ℕ). (name, place_of ports facts name)) names
-    (All-weaker (Contains names) (λ name. place_of ports facts name < 8 + length facts) (λ name _. place_below ports facts few name) names (All-contains_itself names))
+    All-weaker (Contains names) (λ name. place_of ports facts name < 8 + length facts) (λ name _. place_below ports facts few name) names (All-contains_itself names)
 
 -- ---- kinds
 

@@ -1,17 +1,18 @@
--- The names that a row's expressions look at, with their places, and what must hold of the row.
-use Rattle.std.specs.Prelude.{◌≡◌, ℕ, ◌<◌, ◌≤◌, true, false, if◌then◌else◌, List, [], length, map, IfSome}
+-- The places of facts by their names, and what must hold of a row that is made ready.
+use Rattle.std.specs.Prelude.{◌≡◌, ℕ, ◌<◌, ◌≤◌, true, false, if◌then◌else◌, List, [], length, IfSome, Option, unwrap_or}
 use Rattle.std.specs.List.{All}
 use Rattle.spec_world.specs.declared.world.Fact.{Fact}
 use Rattle.spec_world.specs.declared.world.Out.{Out}
 use Rattle.spec_world.specs.declared.world.Row.{Row}
 use Rattle.spec_world.specs.declared.world.Set.{Set}
+use Rattle.spec_run.specs.Leaf.{place_from}
 use Rattle.spec_world.specs.Worlds.{IsExprOver, is_told, names_of_facts}
 use Rattle.spec_world.specs.declared.world.RowSort.{RowSort}
 use Rattle.spec_world.specs.declared.world.RowSort.TheVariants as sort
 
--- these names with their places
-abbrev pub with_places : (List ℕ → ℕ) → List (List ℕ) → List (List ℕ × ℕ)
-with_places place names = map {B = List ℕ × ℕ} (λ (name : List ℕ). (name, place name)) names
+-- each name of a fact has its place, which is after the eight inputs
+abbrev pub ArePlaces : List Fact → (List ℕ → Option ℕ) → Type 0
+ArePlaces facts place = (name : List ℕ) → unwrap_or (place name) 0 ≡ place_from 8 (names_of_facts facts) name 0
 
 -- ---- Rows that can be made ready
 

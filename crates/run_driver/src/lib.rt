@@ -22,6 +22,7 @@ pub use driver::Driver;
 pub use expression::{Inputs, ReadyExpr};
 pub use facts::{FactTable, facts_of};
 pub use hold::Hold;
+pub use naming::{FactPlaces, places_of};
 pub use outs::Outs;
 pub use readying::{kind_of, ready};
 pub use roster::{

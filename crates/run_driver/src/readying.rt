@@ -11,14 +11,14 @@ ghost use Rattle.run_driver.specs.Ready.{expr_reach, fails_reach, ready_number, 
 ghost use Rattle.run_driver.specs.Rules.{rule};
 
 use crate::expression::ReadyExpr;
-use crate::naming::{Names, places_of};
+use crate::naming::{FactPlaces, Names};
 use crate::row::ReadyRow;
 use crate::sort::ReadySort;
 use base_texts::{Items, Name, NoMemory, copy_names};
 use script_code::compile_expr;
 use spec_run::DriverKind;
 use spec_script::Expr;
-use spec_world::{Fact, Out, Row, RowSort};
+use spec_world::{Out, Row, RowSort};
 use std::alloc::Global;
 
 /// An expression, compiled over the places of its names, or want of memory.
@@ -27,8 +27,7 @@ fn ready_expr(alloc: Global, e: &Expr, names: &Names) -> Result<ReadyExpr, NoMem
     ensures number { IfOk result (λ r. ready_number r ≡ number_of (place_of names.now.ports.now names.now.facts.now) e.now) }
     ensures reach { IfOk result (λ r. expr_reach r ≤ 8 + length names.now.facts.now) }
 {
-    let places = places_of(alloc, e, names)?;
-    let code = compile_expr(alloc, e, places.as_slice())?;
+    let code = compile_expr(alloc, e, names)?;
     Ok(ReadyExpr { code })
 }
 
@@ -143,7 +142,7 @@ fn ports_named(row: &Row) -> &[Name]
 
 /// A row of a world with these facts, made ready: its rule is the row's. The error is want of
 /// memory.
-pub fn ready(alloc: Global, row: &Row, facts: &[Fact]) -> Result<ReadyRow, NoMemory>
+pub fn ready(alloc: Global, row: &Row, facts: &FactPlaces) -> Result<ReadyRow, NoMemory>
     requires { CanBeReady facts.now row.now }
     ensures rule { IfOk result (λ r. rule r ≡ rule_of facts.now row.now) }
     ensures kind { IfOk result (λ r. kind_of_way (rule r).way ≡ kind_of_row row.now) }

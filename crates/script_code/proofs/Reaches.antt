@@ -6,7 +6,7 @@ use Rattle.std.proofs.lemmas.List.Elements.{All-nil, All-cons, All-head, All-tai
 use Rattle.std.proofs.lemmas.Slice.Eq.{bytes_eq-Decides}
 use Rattle.spec_script.specs.declared.syntax.Expr.{Expr, ind-Expr, map-Expr, fold-roll-Expr}
 use Rattle.spec_script.specs.declared.syntax.Expr.TheOpen.{Expr-F, Num, Lit, Look, Group, Unary, Binary, Choose}
-use Rattle.script_code.specs.Sources.{IsListed, reach_of, reach_step, slot_of}
+use Rattle.script_code.specs.Sources.{reach_of, reach_step}
 use Rattle.spec_script.specs.Scripts.{names_of, names_step}
 
 -- the parts of a list of which something holds
@@ -46,23 +46,3 @@ module _ (n : ℕ) (names : List ℕ → ℕ) where
       subst (λ k. k ≤ n) (sym (fold-roll-Expr ℕ (reach_step names) x))
       (subst (λ (z : Expr-F Expr). All IsBelow (names_step (map-Expr Expr (List (List ℕ)) names_of z)) → reach_step names (map-Expr Expr ℕ (reach_of names) z) ≤ n)
       is (within_at y) (subst (All IsBelow) (fold-roll-Expr (List (List ℕ)) names_step x) all)))
-
-module _ (n : ℕ) where
-  -- the slot of a name that is listed
-  slot_below : (slots : List (List ℕ × ℕ)) (name : List ℕ) → All (λ pair. pair.1 < n) slots → IsListed slots name → slot_of slots name < n
-  slot_below [] name all listed = absurd (omega (arith, listed.1))
-  slot_below (p ∷ ps) name all listed =
-      elim (Contains-append_cases (p.0 ∷ []) (map (λ (q : List ℕ × ℕ). q.0) ps) name listed) [
-        | inl here ↦
-            let same : name ≡ p.0 = All-contains (λ x. x ≡ p.0) (p.0 ∷ []) name (All-cons (λ x. x ≡ p.0) p.0 [] refl (All-nil (λ x. x ≡ p.0))) here in
-            subst (λ b. cond b p.1 (slot_of ps name) < n) (sym ((bytes_eq-Decides p.0 name).1 (sym same))) (All-head (λ (q : List ℕ × ℕ). q.1 < n) p ps all)
-        | inr there ↦
-            elim (bytes_eq p.0 name) as (λ b. cond b p.1 (slot_of ps name) < n) [
-              | true ↦ All-head (λ (q : List ℕ × ℕ). q.1 < n) p ps all
-              | false ↦ slot_below ps name (All-tail (λ (q : List ℕ × ℕ). q.1 < n) p ps all) there
-            ]
-      ]
-
-  -- an expression whose names are listed
-  pub reach_within : (slots : List (List ℕ × ℕ)) → All (λ pair. pair.1 < n) slots → (e : Expr) → All (IsListed slots) (names_of e) → reach_of (slot_of slots) e ≤ n
-  reach_within slots below e listed = reach_below n (slot_of slots) e (All-weaker (IsListed slots) (λ name. slot_of slots name < n) (λ name has. slot_below slots name below has) (names_of e) listed)

@@ -8,15 +8,6 @@ use Rattle.spec_script.specs.declared.syntax.Stmt.{Stmt}
 use Rattle.spec_script.specs.Grammar.{expr_of, height}
 use Rattle.script_code.specs.Arithmetic.{ChangesByArithmetic}
 
--- the slot of a name: that of its first pair, and 0 where no pair has it
-abbrev pub slot_of : List (List ℕ × ℕ) → List ℕ → ℕ
-slot_of [] name = 0
-slot_of (pair ∷ pairs) name = if bytes_eq pair.0 name then pair.1 else slot_of pairs name
-
--- a name has a pair in the list
-abbrev pub IsListed : List (List ℕ × ℕ) → List ℕ → Type 0
-IsListed slots name = Contains (map (λ pair. pair.0) slots) name
-
 -- the place of a name in a list of names, and 0 where it is not there
 abbrev pub place_in : List (List ℕ) → List ℕ → ℕ
 place_in names name = unwrap_or (position (bytes_eq name) names) 0

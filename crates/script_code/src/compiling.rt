@@ -8,15 +8,15 @@ ghost use Rattle.script_code.specs.Codes.{IsCodeFor, formula};
 ghost use Rattle.script_code.specs.Programs.{formula_of, statement_of};
 ghost use Rattle.spec_script.specs.Grammar.{height};
 ghost use Rattle.script_code.specs.Postfixes.{applied, begun, between, code_of, ended, has_jump, left_number as left_number_of, lone_number as lone_number_of, operator as operator_of, with_number as with_number_of};
-ghost use Rattle.script_code.specs.Sources.{IsCompilable, IsListed, place_in, slot_of};
+ghost use Rattle.script_code.specs.Sources.{IsCompilable, place_in};
 ghost use Rattle.spec_script.specs.Scripts.{names_of, stmt_names};
 ghost use Rattle.script_code.specs.Statements.{stmt_code_reach, stmt_program};
 
 use crate::codes::{ExprCode, ScriptCode, StmtCode};
 use crate::instr::Instr;
-use crate::places::{Numbering, Pairs, Places};
+use crate::places::{Numbering, Places};
 use crate::postfix::Postfix;
-use base_texts::{Items, Name, NoMemory, Shared};
+use base_texts::{Items, NoMemory, Shared};
 use spec_script::{BinOp, Expr, Script, Stmt};
 use std::alloc::Global;
 
@@ -341,13 +341,17 @@ pub fn compile(alloc: Global, script: &Script) -> Result<ScriptCode, NoMemory>
     })
 }
 
-/// The code of an expression, with each name replaced by its slot. The first pair of a name counts.
-pub fn compile_expr(alloc: Global, e: &Expr, slots: &[(Name, u32)]) -> Result<ExprCode, NoMemory>
-    requires named { All (IsListed slots.now) (names_of e.now) }
-    requires low { height e.now ≤ 64 }
-    ensures meaning { IfOk result (λ code. formula code ≡ formula_of (slot_of slots.now) e.now) }
-    ensures reach { (n : ℕ) → All (λ pair. pair.1 < n) slots.now → IfOk result (λ code. (formula code).reach ≤ n) }
+/// The code of an expression, with each name replaced by its place.
+pub fn compile_expr<P: Places>(
+    alloc: Global,
+    e: &Expr,
+    places: &P,
+) -> Result<ExprCode, NoMemory>
+    requires { height e.now ≤ 64 }
+    ensures meaning { IfOk result (λ code. formula code ≡ formula_of (P.place places.now) e.now) }
+    ensures reach { (n : ℕ) → All (λ name. P.place places.now name < n) (names_of e.now) →
+        IfOk result (λ code. (formula code).reach ≤ n) }
 {
-    let postfix = postfix(alloc, e, &Pairs { slots })?;
+    let postfix = postfix(alloc, e, places)?;
     Ok(ExprCode { postfix })
 }

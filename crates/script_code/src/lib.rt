@@ -21,4 +21,5 @@ pub use codes::{Code, ExprCode, ScriptCode};
 pub use compiling::{compile, compile_expr};
 pub use ints::exec_int;
 pub use numbers::number;
+pub use places::Places;
 pub use running::exec;

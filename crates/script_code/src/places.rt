@@ -1,7 +1,7 @@
 ghost use Rattle.std.specs.Prelude.{◌≡◌, ℕ, ◌<◌, ◌^◌, List, [], length, IfOk, OnOk, slice_get};
 ghost use Rattle.indexmap.specs.IndexSet.{insert_key};
 ghost use Rattle.std.specs.Str.{bytes_eq};
-ghost use Rattle.script_code.specs.Sources.{place_in, slot_of};
+ghost use Rattle.script_code.specs.Sources.{place_in};
 
 use base_texts::{Items, Name, NoMemory, copy_names};
 use indexmap::IndexSet;
@@ -16,34 +16,6 @@ pub trait Places {
     /// The place of a name.
     fn place_of(&self, name: &Name) -> u32
         ensures { result ≡ place self.now name.now };
-}
-
-/// Names with their slots. The first pair of a name counts.
-#[derive(Drop)]
-pub struct Pairs<'a> {
-    pub slots: &'a [(Name, u32)],
-}
-
-impl Places for Pairs<'_> {
-    ghost use Rattle.script_code.specs.Sources.{slot_of as slot_among};
-
-    ghost place = { λ pairs. slot_among pairs.slots.now };
-
-    fn place_of(&self, name: &Name) -> u32 {
-        slot_at(self.slots, name)
-    }
-}
-
-/// The slot of a name: that of its first pair.
-fn slot_at(slots: &[(Name, u32)], name: &Name) -> u32
-    ensures { result ≡ slot_of slots.now name.now }
-{
-    for (n, slot) in slots {
-        if n == name {
-            return *slot;
-        }
-    }
-    0
 }
 
 /// The names of a script, each once, with their numbers. Contracts see the names, in the order in which they came.

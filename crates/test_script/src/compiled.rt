@@ -6,8 +6,8 @@ mod conditions;
 
 use base_texts::{Name, NoMemory, Stop};
 use boards::{Board, Window};
-use conditions::{expr_fits, is_textless, script_fits, slots_fit, table_fits};
-use script_code::{compile, compile_expr, exec, number};
+use conditions::{is_low, is_textless, script_fits, table_fits};
+use script_code::{Places, compile, compile_expr, exec, number};
 use script_reader::{parse_expr, parse_script};
 use spec_script::{ExecFault, Expr, Script, Seen, Value};
 use std::alloc::{AllocError, Global};
@@ -53,7 +53,7 @@ fn run_over(
     board: &mut Board,
 ) -> Result<Value, Stop<ExecFault>> {
     let size = board.entries.len();
-    assert!(rt; script_fits(script.stmts.list(), slots));
+    assert!(rt; script_fits(script.stmts.list()));
     let script = compile(alloc, script)?;
     let table = table_of(alloc, script.names(), slots)?;
     assert!(rt; table_fits(table.as_slice(), size));
@@ -247,20 +247,24 @@ fn writes_before_a_fault_stand(rt: HostRuntime) -> Result<(), Fail> {
     Ok(())
 }
 
-/// The number of an expression over the looks in these slots.
-fn number_over(
-    rt: &impl Abort,
-    alloc: Global,
-    expr: &Expr,
-    slots: &[(Name, u32)],
-    window: &Window,
-) -> Result<Result<i64, ExecFault>, NoMemory> {
-    let size = window.sights.len();
-    assert!(rt; expr_fits(expr, slots, 64));
-    assert!(rt; slots_fit(slots, size));
-    assert!(rt; is_textless(expr));
-    let code = compile_expr(alloc, expr, slots)?;
-    Ok(number(&code, window))
+/// The places of the names `n` and `t`, 0 and 2, and that of any other name, 1.
+struct Named {}
+
+impl Places for Named {
+    ghost use Rattle.std.specs.Prelude.{[], ◌∷◌, if◌then◌else◌};
+    ghost use Rattle.std.specs.Str.{bytes_eq};
+
+    ghost place = { λ _ name. if bytes_eq name (110 ∷ []) then 0 else if bytes_eq name (116 ∷ []) then 2 else 1 };
+
+    fn place_of(&self, name: &Name) -> u32 {
+        if name.list() == b"n" {
+            return 0;
+        }
+        if name.list() == b"t" {
+            return 2;
+        }
+        1
+    }
 }
 
 /// The number of an expression over the looks `n`, `none` and `t`: a number, nothing and a text.
@@ -272,10 +276,11 @@ fn number_of(
     let window = Window {
         sights: vec![in alloc; Seen::Int(4), Seen::Absent, Seen::Text]?,
     };
-    let slots = slots_of(alloc, &[("n", 0), ("none", 1), ("t", 2)])?;
-    let outcome = number_over(rt, alloc, expr, slots.as_slice(), &window);
-    drop(slots);
-    outcome
+    assert!(rt; window.sights.len() == 3);
+    assert!(rt; is_low(expr, 64));
+    assert!(rt; is_textless(expr));
+    let code = compile_expr(alloc, expr, &Named {})?;
+    Ok(number(&code, &window))
 }
 
 /// What a text gives as an expression.

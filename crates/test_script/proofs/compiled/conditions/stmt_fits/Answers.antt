@@ -22,10 +22,10 @@ module _ (whole : Stmt) (name : List ℕ) (e : Expr) (low : height e ≤ 64) whe
   change_fits op arithmetic is = subst IsCompilable (sym is) (record { low = low; arithmetic = arithmetic })
 
 pub returns-in-Create : goal.returns-in-Create
-returns-in-Create c = λ yes. create_fits c.args.stmt.now _ c.in-Create.e (c.expr_fits.ensures.low yes) c.in-Create.is
+returns-in-Create c = λ yes. create_fits c.args.stmt.now _ c.in-Create.e (c.is_low.ensures yes) c.in-Create.is
 
 pub returns-in-Assign : goal.returns-in-Assign
-returns-in-Assign c = λ yes. assign_fits c.args.stmt.now _ c.in-Assign.e (c.expr_fits-in-Assign.ensures.low yes) c.in-Assign.is
+returns-in-Assign c = λ yes. assign_fits c.args.stmt.now _ c.in-Assign.e (c.is_low-in-Assign.ensures yes) c.in-Assign.is
 
 pub returns-in-Plain : goal.returns-in-Plain
-returns-in-Plain c = λ yes. plain_fits c.args.stmt.now [] c.in-Plain.e (c.expr_fits-in-Plain.ensures.low yes) c.in-Plain.is
+returns-in-Plain c = λ yes. plain_fits c.args.stmt.now [] c.in-Plain.e (c.is_low-in-Plain.ensures yes) c.in-Plain.is
