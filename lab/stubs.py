@@ -76,4 +76,6 @@ names = only or [d.name for d in sorted((repo/"crates").iterdir()) if d.is_dir()
 (out/"crates").mkdir(parents=True, exist_ok=True)
 for n in names: copy(n)
 t = (repo/"crates.txt").read_text()
-if not (out/"crates.txt").exists() or (out/"crates.txt").read_text() != t: (out/"crates.txt").write_text(t)
+if not (out/"crates.txt").exists() or (out/"crates.txt").read_text() != t:
+    (out/"crates.txt").unlink(missing_ok=True)  # it may be one file for several worlds
+    (out/"crates.txt").write_text(t)
