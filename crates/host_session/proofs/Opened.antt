@@ -54,7 +54,6 @@ bare_runs tree w drivers runs h = record {
     few_slots = h.fit.few_slots;
   };
   told = h.told;
-  told_entries = h.told_entries;
   steady = h.steady;
 }
 

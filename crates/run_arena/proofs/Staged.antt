@@ -34,10 +34,10 @@ beside_more {uid} {size} {b = b} k low high = beside_both k (beside_none uid siz
 
 -- ---- The same stage
 
-pub same_here : {D : Type 0} (a : Stage D) → IsSame a a
+pub same_here : {D P : Type 0} (a : Stage D P) → IsSame a a
 same_here a = record { moment = refl; nodes = refl; kept = refl; board = refl; facts = refl; drivers = refl; notes = refl; reserve = omega arith; full = refl }
 
-pub same_both : {D : Type 0} {a b c : Stage D} → IsSame a b → IsSame b c → IsSame a c
+pub same_both : {D P : Type 0} {a b c : Stage D P} → IsSame a b → IsSame b c → IsSame a c
 same_both k l = record {
   moment = l.moment ∙ k.moment;
   nodes = l.nodes ∙ k.nodes;
@@ -52,7 +52,7 @@ same_both k l = record {
 
 -- ---- What is said of a later stage
 
-module _ {D : Type 0} {old new : Stage D} (same : IsSame old new) where
+module _ {D P : Type 0} {old new : Stage D P} (same : IsSame old new) where
   nodes_same : new.nodes.now ≡ old.nodes.now
   nodes_same = λ i. (same.nodes i).now
 
@@ -64,13 +64,13 @@ module _ {D : Type 0} {old new : Stage D} (same : IsSame old new) where
   pub later : (P : List Node → ℕ → Type 0) → P old.nodes.now old.moment → P new.nodes.now new.moment
   later P k = subst (λ (ns : List Node). P ns new.moment) (sym nodes_same) (subst (λ (m : ℕ). P old.nodes.now m) (sym same.moment) k)
 
-module _ {D : Type 0} (states : D → List DriverState) where
+module _ {D P : Type 0} (states : D → List DriverState) where
   -- what fits among the nodes of the stage before
-  pub fits_later : (a b : Stage D) → IsSame a b → (term : Term) (view : View) (uid : ℕ) → Fits term view uid a.nodes.now (scene_on states b) → FitsOn states b uid term view
+  pub fits_later : (a b : Stage D P) → IsSame a b → (term : Term) (view : View) (uid : ℕ) → Fits term view uid a.nodes.now (scene_on states b) → FitsOn states b uid term view
   fits_later a b same term view uid fits = later same (λ nodes moment. Fits term view uid nodes (scene_on states b)) fits
 
   -- how a part ends that began there
-  pub meets_earlier : {A M : Type 0} (a b c : Stage D) → IsSame a b → (memory : List Kept → M) (r : Result A (Stop NodeFault)) (d : List Node → ℕ → Done A M) →
+  pub meets_earlier : {A M : Type 0} (a b c : Stage D P) → IsSame a b → (memory : List Kept → M) (r : Result A (Stop NodeFault)) (d : List Node → ℕ → Done A M) →
       MeetsOn states memory r b c (d b.nodes.now b.moment) →
       Meets a.nodes.now a.moment memory r (scene_on states b) (scene_on states c) b.notes.now.list c.notes.now.list (d a.nodes.now a.moment)
   meets_earlier a b c same memory r d met =
@@ -78,11 +78,11 @@ module _ {D : Type 0} (states : D → List DriverState) where
 
   -- ---- What parts keep
 
-  pub keeps_none : (uid size : ℕ) (a : Stage D) → Keeps states uid size a a
+  pub keeps_none : (uid size : ℕ) (a : Stage D P) → Keeps states uid size a a
   keeps_none uid size a = record { same = same_here a; beside = beside_none uid size a.kept.now; stays = λ term view at fits. fits }
 
   -- what a part keeps of a whole that was kept before
-  pub keeps_then : (uid size child below : ℕ) (a b c : Stage D) → uid ≤ child → child + below ≤ uid + size → Keeps states uid size a b → Keeps states child below b c → Keeps states uid size a c
+  pub keeps_then : (uid size child below : ℕ) (a b c : Stage D P) → uid ≤ child → child + below ≤ uid + size → Keeps states uid size a b → Keeps states child below b c → Keeps states uid size a c
   keeps_then uid size child below a b c low high one two = record {
     same = same_both one.same two.same;
     beside = beside_both one.beside two.beside (omega arith) (omega arith) low high;
@@ -90,7 +90,7 @@ module _ {D : Type 0} (states : D → List DriverState) where
   }
 
   -- a part in which nothing has changed but notes
-  pub keeps_still : (uid size : ℕ) (a b : Stage D) → IsSame a b → scene_on states b ≡ scene_on states a → Keeps states uid size a b
+  pub keeps_still : (uid size : ℕ) (a b : Stage D P) → IsSame a b → scene_on states b ≡ scene_on states a → Keeps states uid size a b
   keeps_still uid size a b same e = record {
     same = same;
     beside = subst (λ (k : List Kept). Beside uid size a.kept.now k) (λ i. (sym e i).kept) (beside_none uid size a.kept.now);
@@ -98,7 +98,7 @@ module _ {D : Type 0} (states : D → List DriverState) where
   }
 
   -- only the blackboard has changed
-  pub keeps_board : (uid size : ℕ) (a : Stage D) (board : List (Option Value)) → length board ≡ length a.board.now → Keeps states uid size a (record a { board = record a.board { now = board } })
+  pub keeps_board : (uid size : ℕ) (a : Stage D P) (board : List (Option Value)) → length board ≡ length a.board.now → Keeps states uid size a (record a { board = record a.board { now = board } })
   keeps_board uid size a board slots = record {
     same = record { moment = refl; nodes = refl; kept = refl; board = refl; facts = refl; drivers = refl; notes = refl; reserve = omega arith; full = refl };
     beside = beside_none uid size a.kept.now;

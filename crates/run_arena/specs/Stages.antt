@@ -15,26 +15,26 @@ use Rattle.run_arena.specs.Stands.{Beside}
 -- ---- What a stage shows. What the drivers keep is read by the first argument.
 
 -- all that a part can change but the notes
-abbrev pub scene_on : {D : Type 0} → (D → List DriverState) → Stage D → Scene
+abbrev pub scene_on : {D P : Type 0} → (D → List DriverState) → Stage D P → Scene
 scene_on states s = scene s.kept.now s.board.now s.facts.now (states s.drivers.now)
 
 -- the state of the runner
-abbrev pub state_on : {D : Type 0} → (D → List DriverState) → Stage D → State
+abbrev pub state_on : {D P : Type 0} → (D → List DriverState) → Stage D P → State
 state_on states s = state_in s.nodes.now (scene_on states s) s.moment
 
 -- a term that stands there from this uid on, in this view, fits
-abbrev pub FitsOn : {D : Type 0} → (D → List DriverState) → Stage D → ℕ → Term → View → Type 0
+abbrev pub FitsOn : {D P : Type 0} → (D → List DriverState) → Stage D P → ℕ → Term → View → Type 0
 FitsOn states s uid term view = Fits term view uid s.nodes.now (scene_on states s)
 
 -- ---- What a part does
 
 -- How a part ends that began on one stage and left another, compared with what the definition says of it.
-abbrev pub MeetsOn : {D A M : Type 0} → (D → List DriverState) → (List Kept → M) → Result A (Stop NodeFault) → Stage D → Stage D → Done A M → Type 0
+abbrev pub MeetsOn : {D P A M : Type 0} → (D → List DriverState) → (List Kept → M) → Result A (Stop NodeFault) → Stage D P → Stage D P → Done A M → Type 0
 MeetsOn states memory result old new d =
     Meets old.nodes.now old.moment memory result (scene_on states old) (scene_on states new) old.notes.now.list new.notes.now.list d
 
 -- A stage still borrows the same, with the same nodes at the same time, and the reserve of the notes is not smaller.
-pub record IsSame {D : Type 0} (old new : Stage D) : Type 0 where
+pub record IsSame {D P : Type 0} (old new : Stage D P) : Type 0 where
   pub moment : new.moment ≡ old.moment
   pub nodes : new.nodes ≡ old.nodes
   pub kept : new.kept.ghost_name ≡ old.kept.ghost_name
@@ -46,12 +46,12 @@ pub record IsSame {D : Type 0} (old new : Stage D) : Type 0 where
   pub full : new.notes.now.full ≡ old.notes.now.full
 
 -- A part of a visit or a halt keeps the stage, and what nodes beside these keep; and whatever fitted still fits.
-pub record Keeps {D : Type 0} (states : D → List DriverState) (uid size : ℕ) (old new : Stage D) : Type 0 where
+pub record Keeps {D P : Type 0} (states : D → List DriverState) (uid size : ℕ) (old new : Stage D P) : Type 0 where
   pub same : IsSame old new
   pub beside : Beside uid size old.kept.now new.kept.now
   pub stays : StaysFit old.nodes.now (scene_on states old) (scene_on states new)
 
 -- no fact has changed, and no driver was called
-pub record IsAside {D : Type 0} (states : D → List DriverState) (old new : Stage D) : Type 0 where
+pub record IsAside {D P : Type 0} (states : D → List DriverState) (old new : Stage D P) : Type 0 where
   pub facts : new.facts.now ≡ old.facts.now
   pub drivers : states new.drivers.now ≡ states old.drivers.now

@@ -1,11 +1,14 @@
 -- What telling a group of facts leaves, of the facts that changed and of what was told.
-use Rattle.std.proofs.Common.{◌≡◌, ℕ, ℤ, zero, suc, ◌+◌, ◌-◌, ◌≤◌, List, [], ◌∷◌, ◌++◌, Bool, true, false, length, take, drop, refl, sym, ap, ◌∙◌, arith}
+use Rattle.std.proofs.Common.{◌≡◌, ℕ, ℤ, zero, suc, ◌+◌, ◌-◌, ◌<◌, ◌≤◌, List, [], ◌∷◌, ◌++◌, Bool, true, false, OnOk, Result, length, take, drop, get_or, set, refl, sym, ap, ◌∙◌, arith}
 use Rattle.std.specs.Prelude.{if◌then◌else◌}
 use Rattle.std.specs.Ordering.{int_eq}
 use Rattle.std.proofs.Math.Seq.{drop_at, take-add, take_at}
 use Rattle.std.proofs.lemmas.Bool.Decides.{Decides-int_eq}
 use Rattle.std.proofs.lemmas.List.{append-nil, append_assoc, drop-drop, drop_all, length-drop, length-take-le, take-append-drop, take_all, take_rest}
+use Rattle.base_texts.specs.declared.stop.NoMemory.{NoMemory}
 use Rattle.spec_run.specs.Run.{changed_from}
+use Rattle.run_loop.specs.Telling.{with_fact}
+use Rattle.run_loop.proofs.Results.{ok_gives}
 
 -- ---- The facts that changed
 
@@ -14,6 +17,27 @@ none_changed first [] = refl
 none_changed first (f ∷ facts) =
     ap (λ alike. if alike then changed_from (first + 1) facts facts else (first, f) ∷ changed_from (first + 1) facts facts) ((Decides-int_eq f f).1 refl)
     ∙ none_changed (first + 1) facts
+
+-- one fact alone has a value anew
+pub one_changed : (first : ℕ) (olds : List ℤ) (k : ℕ) (value d : ℤ) → k < length olds → changed_from first olds (set olds k value) ≡ with_fact (first + k) (get_or olds k d) value []
+one_changed first [] k value d low = absurd (omega (arith, low))
+one_changed first (o ∷ olds) zero value d low =
+    let same : first ≡ first + 0 = omega arith in
+    ap (λ changes. if int_eq o value then changes else (first, value) ∷ changes) (none_changed (first + 1) olds)
+    ∙ ap (λ fact. with_fact fact o value []) same
+one_changed first (o ∷ olds) (suc k) value d low =
+    let same : first + 1 + k ≡ first + suc k = omega arith in
+    ap (λ alike. if alike then changed_from (first + 1) olds (set olds k value) else (first, o) ∷ changed_from (first + 1) olds (set olds k value)) ((Decides-int_eq o o).1 refl)
+    ∙ one_changed (first + 1) olds k value d (omega (arith, low))
+    ∙ ap (λ fact. with_fact fact (get_or olds k d) value []) same
+
+-- what is added for one fact is all that changed
+pub one_told : (result : Result (Unit {0}) NoMemory) (fact : ℕ) (olds : List ℤ) (old value d : ℤ) (before after : List (ℕ × ℤ)) → fact < length olds → old ≡ get_or olds fact d →
+    OnOk result ((rest : List (ℕ × ℤ)) → after ++ rest ≡ before ++ with_fact fact old value rest) → OnOk result (after ≡ before ++ changed_from 0 olds (set olds fact value))
+one_told result fact olds old value d before after low is =
+    let same : fact ≡ 0 + fact = omega arith in
+    ok_gives result (λ (told : (rest : List (ℕ × ℤ)) → after ++ rest ≡ before ++ with_fact fact old value rest).
+    sym (append-nil after) ∙ told [] ∙ (λ i. before ++ with_fact (same i) (is i) value []) ∙ ap (λ changes. before ++ changes) (sym (one_changed 0 olds fact value d low)))
 
 added : (b : Bool) (e : ℕ × ℤ) (xs ys zs : List (ℕ × ℤ)) → xs ≡ ys ++ zs → (if b then xs else e ∷ xs) ≡ (if b then ys else e ∷ ys) ++ zs
 added true e xs ys zs same = same

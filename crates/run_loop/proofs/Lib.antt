@@ -1,6 +1,8 @@
 pub mod AboutHeld
+pub mod Acting
 pub mod Counting
 pub mod Endings
+pub mod Entries
 pub mod FewLeaves
 pub mod Groups
 pub mod Growing

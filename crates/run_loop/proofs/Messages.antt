@@ -179,7 +179,7 @@ module _ (of : Setup) (message : Message) (drivers : List DriverState) (runs : R
       step_is = subst (λ (o : Option Runner). EventEnds (Ok tt) t drivers drivers1 runs1 block (tell_step o message.runner message.uid message.telling message.at s)) (sym is_before) step_made
 
       stays : StayRuns of.tree of.world drivers1 runs1
-      stays = record { usable = can.are.usable; fit = fit_now; told = can.are.told; told_entries = can.are.told_entries }
+      stays = record { usable = can.are.usable; fit = fit_now; told = can.are.told }
 
       -- what the event leaves
       pub message_left : EventLeft of (Ok tt) (event_side drivers runs old) (event_side drivers1 runs1 block) (message_step message s)

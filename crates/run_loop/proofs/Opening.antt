@@ -158,7 +158,6 @@ module _ (tree : Tree) (world : World) (drivers : List DriverState) where
         few_slots = omega (arith, runnable.limits.slots);
       };
       told = are.told;
-      told_entries = are.told_entries;
       steady = subst (RunSteady tree.term world.rows) (sym opening_state) (opening_steady tree world);
     }
 

@@ -1,11 +1,14 @@
 -- The part of one runner, put back among all runners.
-use Rattle.std.proofs.Common.{◌≡◌, inl, inr, ℕ, ℤ, ◌+◌, ◌-◌, ◌≤◌, List, [], Some, Result, Ok, Err, length, get_or, slice_get, set, option_map, refl, sym, ap, subst, ◌∙◌, arith}
-use Rattle.std.proofs.lemmas.List.{length-set, map-set}
+use Rattle.std.proofs.Common.{◌≡◌, inl, inr, ℕ, ℤ, ◌+◌, ◌-◌, ◌≤◌, List, [], ◌++◌, Option, Some, OnOk, Result, Ok, Err, length, get_or, slice_get, set, option_map, refl, sym, ap, subst, ◌∙◌, arith}
+use Rattle.std.proofs.lemmas.List.{get_or-set_same, length-set, map-set}
 use Rattle.std.proofs.lemmas.Option.{get_or_from_slice_get, slice_get-map}
 use Rattle.std.proofs.Math.Seq.{map-set_same}
 use Rattle.std.specs.Vec.{vec_capacity}
+use Rattle.base_texts.specs.declared.stop.NoMemory.{NoMemory}
 use Rattle.base_texts.specs.declared.stop.Stop.{Stop}
 use Rattle.base_texts.specs.declared.stop.Stop.TheVariants as stop
+use Rattle.base_texts.specs.Stops.{UnlessMemory}
+use Rattle.spec_script.specs.declared.value.Value.{Value}
 use Rattle.spec_run.specs.declared.fault.NodeFault.{NodeFault}
 use Rattle.spec_run.specs.declared.leaf.Instance.{Instance}
 use Rattle.spec_run.specs.declared.memory.Memory.{Memory}
@@ -15,7 +18,7 @@ use Rattle.spec_tree.specs.declared.term.Tree.{Tree}
 use Rattle.spec_world.specs.declared.world.World.{World}
 use Rattle.spec_run.specs.Done.{Call, Done}
 use Rattle.spec_run.specs.Drivers.{DriverState}
-use Rattle.spec_run.specs.Run.{RunState, Runner, root_view, runner_at, runner_calls, state_of}
+use Rattle.spec_run.specs.Run.{RunState, Runner, changed_entries, root_view, runner_at, runner_calls, state_of}
 use Rattle.base_tables.specs.Sound.{Steady}
 use Rattle.run_arena.specs.declared.nodes.Node.{Node}
 use Rattle.run_arena.specs.Ends.{IsMade, Meets}
@@ -28,9 +31,9 @@ use Rattle.run_loop.specs.declared.parts.Turn.{Turn}
 use Rattle.run_loop.specs.declared.runs.ReadyRunner.{ReadyRunner}
 use Rattle.run_loop.specs.declared.runs.Runs.{Runs}
 use Rattle.run_loop.specs.Parts.{CanAct, MeetsPart, PartEnds, PartMade, part_of, scene_of, state_of_all, state_of_runner, turn_part}
-use Rattle.run_loop.specs.Runs.{AreApart, AreRuns, HeldAreTheirs, RunnerFits, RunnersFit, arenas_in, arenas_of, nodes_of_runner, roster_over, runner_in, runners_in, state_of_runs}
+use Rattle.run_loop.specs.Runs.{AreApart, AreRuns, HeldAreTheirs, RunnerFits, RunnersFit, arenas_in, arenas_of, boards_in, nodes_of_runner, nth_board, roster_over, runner_in, runners_in, state_of_runs}
 use Rattle.spec_run.specs.Served.{Setup}
-use Rattle.run_loop.proofs.Lists.{set_alike, set_is}
+use Rattle.run_loop.proofs.Lists.{set_alike, set_is, within}
 use Rattle.run_loop.proofs.Others.{Apart, held_after, other_fits, other_instances, over_runner}
 
 -- the calls that were made, whether a part was made or stopped
@@ -173,3 +176,16 @@ part_among of turn drivers runs are first r is new facts1 drivers1 nodes result 
     subst (λ (y : Runner). PartEnds result t number at (state_of_runs t drivers runs) (arenas_of runs) drivers drivers1 (set runners (number - 1) new) facts1 old told (part_of turn.part of.tree of.world number y.memory (state_of y facts at))) same
     (ends of.tree of.world runners facts drivers are.fit (number - 1) r is number runs.last at refl new facts1 drivers1 nodes old told _ result
     (subst (λ (n : ℕ). Meets r.arena.nodes.items at (memory_of t 1) result (scene_of r facts drivers) (scene_of new facts1 drivers1) old told (part_of turn.part of.tree of.world n (memory_of t 1 r.arena.kept.items) (state_of_runner r facts drivers at))) number_is m))
+
+-- the entries of a runner's blackboard that changed, among all runners
+pub entries_among : (runners : List ReadyRunner) (number : ℕ) (r : ReadyRunner) → slice_get runners (number - 1) ≡ Some r → (new : ReadyRunner) (ended : Result (Unit {0}) (Stop NodeFault)) (told : Result (Unit {0}) NoMemory)
+    (before after : List (ℕ × ℕ × Value)) → UnlessMemory ended (OnOk told (after ≡ before ++ changed_entries number 0 r.board new.board)) →
+    UnlessMemory ended (OnOk told (after ≡ before ++ changed_entries number 0 (nth_board runners number) (nth_board (set runners (number - 1) new) number)))
+entries_among runners number r is new ended told before after said =
+    let board : ReadyRunner → List (Option Value) = λ x. x.board in
+    let here : slice_get (boards_in runners) (number - 1) ≡ Some r.board = slice_get-map board runners (number - 1) ∙ ap (option_map board) is in
+    let old_is : nth_board runners number ≡ r.board = get_or_from_slice_get (boards_in runners) (number - 1) r.board [] here in
+    let new_is : nth_board (set runners (number - 1) new) number ≡ new.board =
+    ap (λ xs. get_or xs (number - 1) []) (map-set board runners (number - 1) new) ∙ get_or-set_same (boards_in runners) (number - 1) new.board [] (within (boards_in runners) (number - 1) r.board here) in
+    subst (λ b. UnlessMemory ended (OnOk told (after ≡ before ++ changed_entries number 0 b (nth_board (set runners (number - 1) new) number)))) (sym old_is)
+    (subst (λ b. UnlessMemory ended (OnOk told (after ≡ before ++ changed_entries number 0 r.board b))) (sym new_is) said)

@@ -1,15 +1,13 @@
 -- An event of one runner, compared with the definition's step.
 use Rattle.std.proofs.Common.{OnOk, OnErr, ◌≡◌, inl, inr, ℕ, ℤ, zero, suc, ◌+◌, ◌-◌, ◌<◌, ◌≤◌, true, cond, List, [], ◌∷◌, ◌++◌, Option, Some, None, IfSome, Result, Ok, Err, map, length, get_or, slice_get, set, option_map, refl, sym, ap, subst, ◌∙◌, append_assoc, append-nil, arith}
 use Rattle.std.proofs.lemmas.List.{length-map, map-set, get_or-set_same}
-use Rattle.std.proofs.lemmas.Bool.Decides.{Decides-int_eq}
-use Rattle.std.proofs.lemmas.Slice.Eq.{bytes_eq-Decides}
 use Rattle.std.proofs.lemmas.Option.{get_or_from_slice_get, slice_get-map}
-use Rattle.std.specs.Ordering.{int_eq}
-use Rattle.std.specs.Str.{bytes_eq}
+use Rattle.std.specs.Global.{Vec}
+use Rattle.base_texts.specs.declared.stop.NoMemory.{NoMemory}
 use Rattle.base_texts.specs.declared.stop.Stop.{Stop}
 use Rattle.base_texts.specs.declared.stop.Stop.TheVariants as stop
+use Rattle.base_texts.specs.Stops.{UnlessMemory}
 use Rattle.spec_script.specs.declared.value.Value.{Value}
-use Rattle.spec_script.specs.declared.value.Value.TheVariants.{Int, Text}
 use Rattle.spec_run.specs.declared.block.Header.{Header}
 use Rattle.spec_run.specs.declared.fault.NodeFault.{NodeFault}
 use Rattle.spec_run.specs.declared.fault.RunFault.{RunFault}
@@ -29,31 +27,17 @@ use Rattle.run_arena.specs.Noted.{calls_named}
 use Rattle.run_arena.specs.Rosters.{instances_of}
 use Rattle.run_loop.specs.declared.runs.ReadyRunner.{ReadyRunner}
 use Rattle.run_loop.specs.declared.runs.Runs.{Runs}
-use Rattle.run_loop.specs.declared.runs.Told.{Told}
 use Rattle.run_loop.specs.Ending.{CanTell, Closing, IsQuenched, IsTelling}
 use Rattle.run_loop.specs.Parts.{PartEnds, PartMade, state_of_all}
 use Rattle.run_loop.specs.Runs.{AreRuns, RunnersFit, arenas_in, arenas_of, boards_in, nth_board, roster_over, runner_in, runners_in, state_of_runs}
 use Rattle.run_loop.specs.Steps.{EndsInFault, EventEnds, IsCutOff}
-use Rattle.run_loop.specs.Telling.{boards_told, entries_told}
+use Rattle.run_loop.proofs.Entries.{no_change}
 use Rattle.run_loop.proofs.Lists.{entry}
 use Rattle.run_loop.proofs.Others.{over_both}
 use Rattle.run_loop.proofs.Quenched.{twice}
+use Rattle.run_loop.proofs.Results.{ok_gives}
 
 -- ---- What changed
-
-bytes_same : (x : List ℕ) → bytes_eq x x ≡ true
-bytes_same x = (bytes_eq-Decides x x).1 refl
-
-int_same : (x : ℤ) → int_eq x x ≡ true
-int_same x = (Decides-int_eq x x).1 refl
-
-had_same : (v : Value) → had (Some v) v ≡ true
-had_same (Int n) = int_same n
-had_same (Text t) = bytes_same t
-
-no_change : (runner slot : ℕ) (e : Option Value) (rest : List (ℕ × ℕ × Value)) → with_change runner slot e e rest ≡ rest
-no_change runner slot None rest = refl
-no_change runner slot (Some v) rest = ap (λ b. cond b rest ((runner, slot, v) ∷ rest)) (had_same v)
 
 pub same_entries : (runner slot : ℕ) (entries : List (Option Value)) → changed_entries runner slot entries entries ≡ []
 same_entries runner slot [] = refl
@@ -112,20 +96,30 @@ module _ (header : Header) (tree : Tree) (number : ℕ) (notes : List Note) (cal
   more_calls (Ok a) = ([], append-nil (runner_calls number calls))
   more_calls (Err f) = (quench_calls 1 after.runners, refl)
 
+-- what is said of entries that were told
+entries_there : {P : Type 0} {told : Result (Unit {0}) NoMemory} → told ≡ Ok tt → OnOk told P → P
+entries_there {P} is said = subst (λ (r : Result (Unit {0}) NoMemory). OnOk r P) is said
+
+-- a block that had no entries has those that were added
+pub entries_of : (ended : Result (Unit {0}) (Stop NodeFault)) (told : Result (Unit {0}) NoMemory) (before after added : List (ℕ × ℕ × Value)) → before ≡ [] →
+    UnlessMemory ended (OnOk told (after ≡ before ++ added)) → UnlessMemory ended (OnOk told (after ≡ added))
+entries_of (Ok a) told before after added none said = ok_gives told (λ (more : after ≡ before ++ added). more ∙ ap (λ xs. xs ++ added) none) said
+entries_of (Err (stop.Fault f)) told before after added none said = ok_gives told (λ (more : after ≡ before ++ added). more ∙ ap (λ xs. xs ++ added) none) said
+entries_of (Err stop.NoMemory) told before after added none said = tt
+
 -- what holds of runs after an event that was made, apart from the rules of states
 pub record StayRuns (tree : Tree) (world : World) (drivers : List DriverState) (runs : Runs) : Type 0 where
   pub usable : runs.usable ≡ true
   pub fit : RunnersFit tree world runs.facts drivers runs.runners.items
-  pub told : runs.told.facts.items ≡ runs.facts
-  pub told_entries : boards_told runs.told.boards.items ≡ boards_in runs.runners.items
+  pub told : runs.told.items ≡ runs.facts
 
 -- ---- The event
 
 module _ (tree : Tree) (header : Header) (number at : ℕ) (runs0 runs1 runs2 : Runs) (before mid after : List DriverState) (block1 block2 : Block)
     (first : 1 ≤ number) (last : number ≤ length runs0.runners.items)
-    (was_told : runs0.told.facts.items ≡ runs0.facts) (were_told : boards_told runs0.told.boards.items ≡ boards_in runs0.runners.items)
+    (was_told : runs0.told.items ≡ runs0.facts)
     (arenas : arenas_of runs1 ≡ arenas_of runs0) (same_told : runs1.told ≡ runs0.told) (last_is : runs1.last ≡ at)
-    (begun : block1.header ≡ header) (no_facts : block1.facts.items ≡ []) (no_entries : block1.entries.items ≡ [])
+    (begun : block1.header ≡ header) (no_facts : block1.facts.items ≡ []) (entries_told : Result (Unit {0}) NoMemory)
     (d : Done (Unit {0}) Memory) where
   abbrev t : Term
   t = tree.term
@@ -145,6 +139,10 @@ module _ (tree : Tree) (header : Header) (number at : ℕ) (runs0 runs1 runs2 : 
   abbrev held : List Runner
   held = runners_in t mid runs1.runners.items
 
+  -- the entries of the block are those of the runner's blackboard that changed
+  abbrev EntriesTold : Type 0
+  EntriesTold = block1.entries.items ≡ changed_entries number 0 (nth_board runs0.runners.items number) (nth_board runs1.runners.items number)
+
   module _ (left_is : state_of_all t mid runs1.runners.items runs1.facts at ≡ left) where
     held_is : held ≡ left.runners
     held_is = ap (λ (x : RunState). x.runners) left_is
@@ -152,10 +150,10 @@ module _ (tree : Tree) (header : Header) (number at : ℕ) (runs0 runs1 runs2 : 
     facts_are : runs1.facts ≡ left.facts
     facts_are = ap (λ (x : RunState). x.facts) left_is
 
-    facts_told : (block : Block) (new : Told) → IsTelling number runs1.facts (boards_in runs1.runners.items) runs1.told new block1 block → block.facts.items ≡ changed_from 0 s.facts left.facts
+    facts_told : (block : Block) (new : List ℤ) → IsTelling entries_told runs1.facts runs1.told.items new block1 block → block.facts.items ≡ changed_from 0 s.facts left.facts
     facts_told block new telling =
         telling.changed
-        ∙ (λ i. no_facts i ++ changed_from 0 (same_told i).facts.items (facts_are i))
+        ∙ (λ i. no_facts i ++ changed_from 0 (same_told i).items (facts_are i))
         ∙ ap (λ xs. changed_from 0 xs left.facts) was_told
 
     board_is : get_or (boards_in runs1.runners.items) (number - 1) [] ≡ d.state.board
@@ -164,19 +162,19 @@ module _ (tree : Tree) (header : Header) (number at : ℕ) (runs0 runs1 runs2 : 
         ∙ get_or-set_same (map board_of s.runners) (number - 1) d.state.board []
         (omega (arith, first, last, length-map s.runners board_of, length-map runs0.runners.items (runner_in t before)))
 
-    entries_told_are : (block : Block) (new : Told) → IsTelling number runs1.facts (boards_in runs1.runners.items) runs1.told new block1 block → block.entries.items ≡ changed_boards 1 s.runners left.runners
-    entries_told_are block new telling =
-        telling.entries
-        ∙ (λ i. no_entries i ++ changed_entries number 0 (entries_told (same_told i).boards.items number) (board_is i))
-        ∙ ap (λ xs. changed_entries number 0 (get_or xs (number - 1) []) d.state.board) (were_told ∙ sym (boards_are t before runs0.runners.items))
+    entries_told_are : (block : Block) → block.entries.items ≡ block1.entries.items → EntriesTold → block.entries.items ≡ changed_boards 1 s.runners left.runners
+    entries_told_are block same are =
+        same
+        ∙ are
+        ∙ (λ i. changed_entries number 0 (get_or (sym (boards_are t before runs0.runners.items) i) (number - 1) []) (board_is i))
         ∙ ap (λ n. changed_entries n 0 (get_or (map board_of s.runners) (number - 1) []) d.state.board) (let e : number ≡ 1 + (number - 1) = omega (arith, first) in e)
         ∙ sym (one_board 1 s.runners (number - 1) _ (omega (arith, first, last, length-map runs0.runners.items (runner_in t before))))
 
   -- the part was made, and what changed was told
   made_told : PartMade t number at s (arenas_of runs0) before mid runs1.runners.items runs1.facts [] block1.notes.list (Ok tt) d →
-      IsTelling number runs1.facts (boards_in runs1.runners.items) runs1.told runs2.told block1 block2 → runs2 ≡ record runs1 { told = runs2.told } → block2.notes ≡ block1.notes → after ≡ mid →
+      IsTelling entries_told runs1.facts runs1.told.items runs2.told.items block1 block2 → EntriesTold → runs2 ≡ record runs1 { told = runs2.told } → block2.notes ≡ block1.notes → after ≡ mid →
       EventEnds (Ok tt) t before after runs2 block2 whole
-  made_told m telling same_runs same_notes same_drivers =
+  made_told m telling entries same_runs same_notes same_drivers =
       subst (λ (r : Result (Unit {0}) NodeFault). EventEnds (Ok tt) t before after runs2 block2 (step_by r)) (sym m.answer) (
         refl,
         record {
@@ -186,8 +184,8 @@ module _ (tree : Tree) (header : Header) (number at : ℕ) (runs0 runs1 runs2 : 
           shown = λ i. record {
             header = (telling.header ∙ begun) i;
             notes = (ap (λ n. n.list) same_notes ∙ m.notes) i;
-            facts = facts_told m.state block2 runs2.told telling i;
-            entries = entries_told_are m.state block2 runs2.told telling i;
+            facts = facts_told m.state block2 runs2.told.items telling i;
+            entries = entries_told_are m.state block2 telling.entries entries i;
           };
           drivers = same_drivers ∙ m.drivers ∙ ap (λ ns. roster_over ns (runner_calls number d.calls) before) (sym arenas ∙ sym (ap arenas_of same_runs));
         },
@@ -238,9 +236,9 @@ module _ (tree : Tree) (header : Header) (number at : ℕ) (runs0 runs1 runs2 : 
         ∙ ap (λ ns. roster_over ns (runner_calls number d.calls ++ quench_calls 1 left.runners) before) (sym (q.arenas ∙ arenas))
 
     -- there was a fault, and all was told
-    fault_told : (g : RunFault) → g ≡ record { runner = number; uid = f.uid; cause = f.cause } → IsTelling number runs1.facts (boards_in runs1.runners.items) runs1.told runs2.told block1 block2 →
+    fault_told : (g : RunFault) → g ≡ record { runner = number; uid = f.uid; cause = f.cause } → IsTelling entries_told runs1.facts runs1.told.items runs2.told.items block1 block2 → EntriesTold →
         EventEnds (Err (stop.Fault g)) t before after runs2 block2 whole
-    fault_told g is telling =
+    fault_told g is telling entries =
         subst (λ (r : Result (Unit {0}) NodeFault). EventEnds (Err (stop.Fault g)) t before after runs2 block2 (step_by r)) (sym m.answer) (
           ap Some (sym is),
           record {
@@ -248,8 +246,8 @@ module _ (tree : Tree) (header : Header) (number at : ℕ) (runs0 runs1 runs2 : 
             shown = λ i. record {
               header = (telling.header ∙ begun) i;
               notes = notes_at_fault i;
-              facts = facts_told m.state block2 runs2.told telling i;
-              entries = (entries_told_are m.state block2 runs2.told telling ∙ sym (quench_boards tree 1 s.runners left.runners)) i;
+              facts = facts_told m.state block2 runs2.told.items telling i;
+              entries = (entries_told_are m.state block2 telling.entries entries ∙ sym (quench_boards tree 1 s.runners left.runners)) i;
             };
             drivers = drivers_at_fault;
           },
@@ -262,25 +260,17 @@ module _ (tree : Tree) (header : Header) (number at : ℕ) (runs0 runs1 runs2 : 
         (inr (record { fault = record { runner = number; uid = f.uid; cause = f.cause }; faulted = refl; noted = notes_at_fault; drivers = drivers_at_fault }))
 
   -- what holds of runs still does
-  stays : (world : World) → runs1.usable ≡ true → RunnersFit tree world runs1.facts mid runs1.runners.items → state_of_all t mid runs1.runners.items runs1.facts at ≡ left →
-      IsTelling number runs1.facts (boards_in runs1.runners.items) runs1.told runs2.told block1 block2 → runs2 ≡ record runs1 { told = runs2.told } → after ≡ mid → StayRuns tree world after runs2
-  stays world usable fit left_is telling same_runs same_drivers =
-      let boards1 : boards_in runs1.runners.items ≡ set (boards_in runs0.runners.items) (number - 1) d.state.board =
-      sym (boards_are t mid runs1.runners.items) ∙ ap (map board_of) (held_is left_is) ∙ map-set board_of s.runners (number - 1) _ ∙ ap (λ xs. set xs (number - 1) d.state.board) (boards_are t before runs0.runners.items) in
+  stays : (world : World) → runs1.usable ≡ true → RunnersFit tree world runs1.facts mid runs1.runners.items → IsTelling entries_told runs1.facts runs1.told.items runs2.told.items block1 block2 → runs2 ≡ record runs1 { told = runs2.told } → after ≡ mid → StayRuns tree world after runs2
+  stays world usable fit telling same_runs same_drivers =
       record {
         usable = ap (λ (r : Runs). r.usable) same_runs ∙ usable;
         fit = subst (λ (ds : List DriverState). RunnersFit tree world runs2.facts ds runs2.runners.items) (sym same_drivers) (subst (λ (r : Runs). RunnersFit tree world r.facts mid r.runners.items) (sym same_runs) fit);
         told = telling.told ∙ sym (ap (λ (r : Runs). r.facts) same_runs);
-        told_entries =
-            telling.told_entries
-            ∙ (λ i. set (boards_told (same_told i).boards.items) (number - 1) (board_is left_is i))
-            ∙ ap (λ xs. set xs (number - 1) d.state.board) were_told
-            ∙ sym boards1 ∙ ap (λ (r : Runs). boards_in r.runners.items) (sym same_runs);
       }
 
   pub stay_runs : (world : World) → runs1.usable ≡ true → RunnersFit tree world runs1.facts mid runs1.runners.items → (ended : Result (Unit {0}) (Stop NodeFault)) (result : Result (Unit {0}) (Stop RunFault)) →
-      PartEnds ended t number at s (arenas_of runs0) before mid runs1.runners.items runs1.facts [] block1.notes.list d → Closing ended result tree number mid after runs1 runs2 block1 block2 → OnOk result (StayRuns tree world after runs2)
-  stay_runs world usable fit (Ok a) (Ok b) m closing = stays world usable fit m.0.state closing.0 closing.1 closing.3
+      PartEnds ended t number at s (arenas_of runs0) before mid runs1.runners.items runs1.facts [] block1.notes.list d → Closing ended entries_told result tree number mid after runs1 runs2 block1 block2 → OnOk result (StayRuns tree world after runs2)
+  stay_runs world usable fit (Ok a) (Ok b) m closing = stays world usable fit closing.0 closing.1 closing.3
   stay_runs world usable fit (Ok a) (Err e) m closing = tt
   stay_runs world usable fit (Err (stop.Fault f)) (Ok b) m closing = absurd closing
   stay_runs world usable fit (Err stop.NoMemory) (Ok b) m closing = absurd closing
@@ -288,17 +278,17 @@ module _ (tree : Tree) (header : Header) (number at : ℕ) (runs0 runs1 runs2 : 
 
   -- whether the part and the event were made or stopped, the event ends as the definition says
   pub steps : (ended : Result (Unit {0}) (Stop NodeFault)) (result : Result (Unit {0}) (Stop RunFault)) →
-      PartEnds ended t number at s (arenas_of runs0) before mid runs1.runners.items runs1.facts [] block1.notes.list d → Closing ended result tree number mid after runs1 runs2 block1 block2 →
-      EventEnds result t before after runs2 block2 whole
-  steps (Ok a) (Ok b) m closing = made_told m.0 closing.0 closing.1 closing.2 closing.3
-  steps (Ok a) (Err stop.NoMemory) m closing = inl (cut_off d.answer d.notes [] d.calls [] (append-nil d.notes) (append-nil d.calls) m.1 m.0.notes m.0.drivers closing)
-  steps (Ok a) (Err (stop.Fault g)) m closing = absurd closing
-  steps (Err (stop.Fault f)) (Ok b) m closing = absurd closing
-  steps (Err (stop.Fault f)) (Err (stop.Fault g)) m closing = fault_told f m closing.1 g closing.0 closing.2
-  steps (Err (stop.Fault f)) (Err stop.NoMemory) m closing = fault_untold f m closing
-  steps (Err stop.NoMemory) (Ok b) m closing = absurd closing
-  steps (Err stop.NoMemory) (Err (stop.Fault g)) m closing = absurd closing
-  steps (Err stop.NoMemory) (Err stop.NoMemory) m closing = inl (cut_off d.answer m.told m.untold m.made m.unmade m.all_notes m.all_calls m.named m.notes m.drivers closing)
+      PartEnds ended t number at s (arenas_of runs0) before mid runs1.runners.items runs1.facts [] block1.notes.list d → UnlessMemory ended (OnOk entries_told EntriesTold) →
+      Closing ended entries_told result tree number mid after runs1 runs2 block1 block2 → EventEnds result t before after runs2 block2 whole
+  steps (Ok a) (Ok b) m entries closing = made_told m.0 closing.0 (entries_there closing.0.is_told entries) closing.1 closing.2 closing.3
+  steps (Ok a) (Err stop.NoMemory) m entries closing = inl (cut_off d.answer d.notes [] d.calls [] (append-nil d.notes) (append-nil d.calls) m.1 m.0.notes m.0.drivers closing)
+  steps (Ok a) (Err (stop.Fault g)) m entries closing = absurd closing
+  steps (Err (stop.Fault f)) (Ok b) m entries closing = absurd closing
+  steps (Err (stop.Fault f)) (Err (stop.Fault g)) m entries closing = fault_told f m closing.1 g closing.0 closing.2 (entries_there closing.2.is_told entries)
+  steps (Err (stop.Fault f)) (Err stop.NoMemory) m entries closing = fault_untold f m closing
+  steps (Err stop.NoMemory) (Ok b) m entries closing = absurd closing
+  steps (Err stop.NoMemory) (Err (stop.Fault g)) m entries closing = absurd closing
+  steps (Err stop.NoMemory) (Err stop.NoMemory) m entries closing = inl (cut_off d.answer m.told m.untold m.made m.unmade m.all_notes m.all_calls m.named m.notes m.drivers closing)
 
 -- ---- After an event
 
@@ -313,32 +303,32 @@ quenched_stays tree before after old new n0 n1 q =
     λ i. record { runners = sym again i; facts = new.facts; last = new.last }
 
 -- after a stop all runners are quenched
-pub stop_quenched : (ended : Result (Unit {0}) (Stop NodeFault)) (result : Result (Unit {0}) (Stop RunFault)) (tree : Tree) (number : ℕ) (before after : List DriverState) (old new : Runs) (begun block : Block) →
-    Closing ended result tree number before after old new begun block → OnErr result (state_of_runs tree.term after new ≡ quenched tree (state_of_runs tree.term after new))
-stop_quenched (Ok a) (Ok b) tree number before after old new begun block c = tt
-stop_quenched (Ok a) (Err stop.NoMemory) tree number before after old new begun block c = quenched_stays tree before after old new _ _ c
-stop_quenched (Ok a) (Err (stop.Fault g)) tree number before after old new begun block c = absurd c
-stop_quenched (Err e) (Ok b) tree number before after old new begun block c = tt
-stop_quenched (Err (stop.Fault f)) (Err (stop.Fault g)) tree number before after old new begun block c = quenched_stays tree before after old new _ _ c.1
-stop_quenched (Err (stop.Fault f)) (Err stop.NoMemory) tree number before after old new begun block c = quenched_stays tree before after old new _ _ c
-stop_quenched (Err stop.NoMemory) (Err (stop.Fault g)) tree number before after old new begun block c = absurd c
-stop_quenched (Err stop.NoMemory) (Err stop.NoMemory) tree number before after old new begun block c = quenched_stays tree before after old new _ _ c
+pub stop_quenched : (ended : Result (Unit {0}) (Stop NodeFault)) (told : Result (Unit {0}) NoMemory) (result : Result (Unit {0}) (Stop RunFault)) (tree : Tree) (number : ℕ) (before after : List DriverState) (old new : Runs) (begun block : Block) →
+    Closing ended told result tree number before after old new begun block → OnErr result (state_of_runs tree.term after new ≡ quenched tree (state_of_runs tree.term after new))
+stop_quenched (Ok a) said (Ok b) tree number before after old new begun block c = tt
+stop_quenched (Ok a) said (Err stop.NoMemory) tree number before after old new begun block c = quenched_stays tree before after old new _ _ c
+stop_quenched (Ok a) said (Err (stop.Fault g)) tree number before after old new begun block c = absurd c
+stop_quenched (Err e) said (Ok b) tree number before after old new begun block c = tt
+stop_quenched (Err (stop.Fault f)) said (Err (stop.Fault g)) tree number before after old new begun block c = quenched_stays tree before after old new _ _ c.1
+stop_quenched (Err (stop.Fault f)) said (Err stop.NoMemory) tree number before after old new begun block c = quenched_stays tree before after old new _ _ c
+stop_quenched (Err stop.NoMemory) said (Err (stop.Fault g)) tree number before after old new begun block c = absurd c
+stop_quenched (Err stop.NoMemory) said (Err stop.NoMemory) tree number before after old new begun block c = quenched_stays tree before after old new _ _ c
 
 -- no arena changes, and the drivers took some calls
 abbrev pub Called : List (List Node) → List DriverState → List DriverState → Type 0
 Called arenas before after = (calls : List RunnerCall) × (after ≡ roster_over arenas calls before)
 
-pub closing_keeps : (ended : Result (Unit {0}) (Stop NodeFault)) (result : Result (Unit {0}) (Stop RunFault)) (tree : Tree) (number : ℕ) (before after : List DriverState) (old new : Runs) (begun block : Block) →
-    Closing ended result tree number before after old new begun block → (arenas_of new ≡ arenas_of old) × Called (arenas_of old) before after
-closing_keeps (Ok a) (Ok b) tree number before after old new begun block c = (ap arenas_of c.1, ([], c.3))
-closing_keeps (Ok a) (Err stop.NoMemory) tree number before after old new begun block c = (c.arenas, (quench_calls 1 (runners_in tree.term before old.runners.items), c.drivers))
-closing_keeps (Ok a) (Err (stop.Fault g)) tree number before after old new begun block c = absurd c
-closing_keeps (Err (stop.Fault f)) (Ok b) tree number before after old new begun block c = absurd c
-closing_keeps (Err stop.NoMemory) (Ok b) tree number before after old new begun block c = absurd c
-closing_keeps (Err (stop.Fault f)) (Err (stop.Fault g)) tree number before after old new begun block c = (c.1.arenas, (quench_calls 1 (runners_in tree.term before old.runners.items), c.1.drivers))
-closing_keeps (Err (stop.Fault f)) (Err stop.NoMemory) tree number before after old new begun block c = (c.arenas, (quench_calls 1 (runners_in tree.term before old.runners.items), c.drivers))
-closing_keeps (Err stop.NoMemory) (Err (stop.Fault g)) tree number before after old new begun block c = absurd c
-closing_keeps (Err stop.NoMemory) (Err stop.NoMemory) tree number before after old new begun block c = (c.arenas, (quench_calls 1 (runners_in tree.term before old.runners.items), c.drivers))
+pub closing_keeps : (ended : Result (Unit {0}) (Stop NodeFault)) (told : Result (Unit {0}) NoMemory) (result : Result (Unit {0}) (Stop RunFault)) (tree : Tree) (number : ℕ) (before after : List DriverState) (old new : Runs) (begun block : Block) →
+    Closing ended told result tree number before after old new begun block → (arenas_of new ≡ arenas_of old) × Called (arenas_of old) before after
+closing_keeps (Ok a) said (Ok b) tree number before after old new begun block c = (ap arenas_of c.1, ([], c.3))
+closing_keeps (Ok a) said (Err stop.NoMemory) tree number before after old new begun block c = (c.arenas, (quench_calls 1 (runners_in tree.term before old.runners.items), c.drivers))
+closing_keeps (Ok a) said (Err (stop.Fault g)) tree number before after old new begun block c = absurd c
+closing_keeps (Err (stop.Fault f)) said (Ok b) tree number before after old new begun block c = absurd c
+closing_keeps (Err stop.NoMemory) said (Ok b) tree number before after old new begun block c = absurd c
+closing_keeps (Err (stop.Fault f)) said (Err (stop.Fault g)) tree number before after old new begun block c = (c.1.arenas, (quench_calls 1 (runners_in tree.term before old.runners.items), c.1.drivers))
+closing_keeps (Err (stop.Fault f)) said (Err stop.NoMemory) tree number before after old new begun block c = (c.arenas, (quench_calls 1 (runners_in tree.term before old.runners.items), c.drivers))
+closing_keeps (Err stop.NoMemory) said (Err (stop.Fault g)) tree number before after old new begun block c = absurd c
+closing_keeps (Err stop.NoMemory) said (Err stop.NoMemory) tree number before after old new begun block c = (c.arenas, (quench_calls 1 (runners_in tree.term before old.runners.items), c.drivers))
 
 pub part_calls : (ended : Result (Unit {0}) (Stop NodeFault)) (t : Term) (number at : ℕ) (s : RunState) (arenas : List (List Node)) (before after : List DriverState) (runners : List ReadyRunner) (facts : List ℤ) (n0 n1 : List Note) (d : Done (Unit {0}) Memory) →
     PartEnds ended t number at s arenas before after runners facts n0 n1 d → Called arenas before after
@@ -348,30 +338,11 @@ part_calls (Err stop.NoMemory) t number at s arenas before after runners facts n
 
 -- ---- What can be told
 
-board_length : (tree : Tree) (world : World) (facts : List ℤ) (drivers : List DriverState) (rs : List ReadyRunner) → RunnersFit tree world facts drivers rs → (number : ℕ) → 1 ≤ number → number ≤ length rs → length (nth_board rs number) ≡ length (slots tree)
-board_length tree world facts drivers rs fit number first last =
-    let here : (r : ReadyRunner) × (slice_get rs (number - 1) ≡ Some r) = entry rs (number - 1) (omega (arith, first, last)) in
-    ap length (get_or_from_slice_get (boards_in rs) (number - 1) here.0.board [] (slice_get-map (λ (r : ReadyRunner). r.board) rs (number - 1) ∙ ap (option_map (λ (r : ReadyRunner). r.board)) here.1))
-    ∙ (fit.each (number - 1) here.0 here.1).fits.slots
-
-pub can_tell : (tree : Tree) (world : World) (number : ℕ) (before mid : List DriverState) (runs0 runs1 : Runs) → AreRuns tree world before runs0 → RunnersFit tree world runs1.facts mid runs1.runners.items → runs1.told ≡ runs0.told →
-    1 ≤ number → number ≤ world.runners → CanTell number runs1
-can_tell tree world number before mid runs0 runs1 are fit told first last =
-    let as_many : length runs1.told.boards.items ≡ length runs0.runners.items =
-    ap (λ (x : Told). length x.boards.items) told ∙ sym (length-map runs0.told.boards.items _) ∙ ap length are.told_entries ∙ length-map runs0.runners.items _ in
-    record {
-      first = first;
-      last = omega (arith, last, fit.many);
-      facts = ap (λ (x : Told). length x.facts.items) told ∙ ap length are.told ∙ are.fit.many_facts ∙ sym fit.many_facts;
-      few_facts = omega (arith, fit.few_facts, fit.many_facts);
-      boards = as_many ∙ are.fit.many ∙ sym fit.many;
-      entries =
-          ap (λ (x : Told). length (entries_told x.boards.items number)) told
-          ∙ ap (λ xs. length (get_or xs (number - 1) [])) are.told_entries
-          ∙ board_length tree world runs0.facts before runs0.runners.items are.fit number first (omega (arith, last, are.fit.many))
-          ∙ sym (board_length tree world runs1.facts mid runs1.runners.items fit number first (omega (arith, last, fit.many)));
-      few_entries = omega (arith, fit.few_slots, board_length tree world runs1.facts mid runs1.runners.items fit number first (omega (arith, last, fit.many)));
-    }
+pub can_tell : (tree : Tree) (world : World) (before mid : List DriverState) (runs0 runs1 : Runs) → AreRuns tree world before runs0 → RunnersFit tree world runs1.facts mid runs1.runners.items → runs1.told ≡ runs0.told → CanTell runs1
+can_tell tree world before mid runs0 runs1 are fit told = record {
+  facts = ap (λ (x : Vec ℤ). length x.items) told ∙ ap length are.told ∙ are.fit.many_facts ∙ sym fit.many_facts;
+  few_facts = omega (arith, fit.few_facts, fit.many_facts);
+}
 
 -- ---- The runner of a number
 

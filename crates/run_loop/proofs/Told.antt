@@ -1,12 +1,9 @@
 -- What differs between two lists, entry by entry, where a prefix of one is made equal to that of the other.
 use Rattle.std.proofs.Common.{◌≡◌, ℕ, ℤ, zero, suc, ◌+◌, ◌-◌, ◌<◌, ◌≤◌, List, [], ◌∷◌, ◌++◌, length, take, drop, get_or, set, refl, sym, ap, ◌∙◌, add-one, arith}
-use Rattle.std.specs.Prelude.{Option}
-use Rattle.std.specs.Global.{Vec}
-use Rattle.std.proofs.lemmas.List.{drop_more, get_or-map, map-set}
+use Rattle.std.proofs.lemmas.List.{drop_more}
 use Rattle.std.proofs.Math.Nat.{add_assoc}
 use Rattle.spec_run.specs.Run.{changed_from}
-use Rattle.spec_script.specs.declared.value.Value.{Value}
-use Rattle.run_loop.specs.Telling.{boards_told, entries_told, with_fact}
+use Rattle.run_loop.specs.Telling.{with_fact}
 
 module _ {A : Type 0} where
   joined_at_end : (news : List A) (k : ℕ) (d : A) → k < length news → get_or (take k news ++ []) k d ≡ d
@@ -56,15 +53,3 @@ module _ {A C : Type 0} (differ : ℕ → List A → List A → List C) (adds : 
 pub changes_next : (first k : ℕ) (o : ℤ) (os : List ℤ) (n : ℤ) (ns : List ℤ) →
     changed_from (first + k) (o ∷ os) (n ∷ ns) ≡ with_fact (first + k) o n (changed_from (first + (k + 1)) os ns)
 changes_next first k o os n ns = ap (λ m. with_fact (first + k) o n (changed_from m os ns)) (add_assoc first k 1)
-
--- ---- What was told of a runner
-
-told_is : (told : List (Vec (Option Value))) (number : ℕ) (v : Vec (Option Value)) → 1 ≤ number → number ≤ length told → entries_told told number ≡ (get_or told (number - 1) v).items
-told_is told number v first last = get_or-map (λ (e : Vec (Option Value)). e.items) told (number - 1) v [] (omega (arith, first, last))
-
-module _ (told : List (Vec (Option Value))) (number : ℕ) (v : Vec (Option Value)) (entries : List (Option Value)) (first : 1 ≤ number) (last : number ≤ length told) (is : entries ≡ (get_or told (number - 1) v).items) where
-  pub told_entries : entries_told told number ≡ entries
-  told_entries = told_is told number v first last ∙ sym is
-
-  pub told_set : (new : Vec (Option Value)) (board : List (Option Value)) → new.items ≡ board → boards_told (set told (number - 1) new) ≡ set (boards_told told) (number - 1) board
-  told_set new board same = map-set (λ (e : Vec (Option Value)). e.items) told (number - 1) new ∙ ap (λ xs. set (boards_told told) (number - 1) xs) same

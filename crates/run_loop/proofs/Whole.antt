@@ -2,6 +2,7 @@
 use Rattle.std.proofs.Common.{◌≡◌, ℕ, ℤ, ◌≤◌, List, [], ◌++◌, Some, Result, Ok, Err, OnOk, length, map, set, w64, refl, sym, ap, subst, ◌∙◌}
 use Rattle.std.proofs.lemmas.List.{length-set}
 use Rattle.std.proofs.lemmas.Int.{to_z-of_z}
+use Rattle.std.specs.Global.{Vec}
 use Rattle.std.specs.Int.{cast_signed, cast_unsigned}
 use Rattle.base_tables.proofs.Canonical.{fits_from_int}
 use Rattle.base_texts.specs.declared.stop.Stop.{Stop}
@@ -26,12 +27,10 @@ use Rattle.run_loop.specs.declared.parts.Part.{Part}
 use Rattle.run_loop.specs.declared.parts.Part.TheVariants as part
 use Rattle.run_loop.specs.declared.runs.ReadyRunner.{ReadyRunner}
 use Rattle.run_loop.specs.declared.runs.Runs.{Runs}
-use Rattle.run_loop.specs.declared.runs.Told.{Told}
 use Rattle.run_loop.specs.Ending.{IsQuenched}
 use Rattle.run_loop.specs.Parts.{ending_of, header_by, part_of, step_by_part}
 use Rattle.run_loop.specs.Runs.{AreRuns, RunnersFit, arenas_of, roster_over, runners_in, state_of_runs}
 use Rattle.run_loop.specs.Steps.{EventEnds, IsCutOff}
-use Rattle.run_loop.specs.Telling.{boards_told}
 use Rattle.run_loop.proofs.Stepping.{StayRuns, instances_are, same_boards}
 
 -- ---- Steps
@@ -64,7 +63,6 @@ steady_after (Ok a) tree world before after runs block d ends steady stay = reco
   usable = stay.usable;
   fit = stay.fit;
   told = stay.told;
-  told_entries = stay.told_entries;
   steady = subst (λ (s : RunState). RunSteady tree.term world.rows s) (sym ends.1.state) steady;
 }
 steady_after (Err e) tree world before after runs block d ends steady stay = tt
@@ -107,7 +105,7 @@ value_is world what fact value is valid = to_z-of_z w64 value (fits_from_int val
 
 module _ (tree : Tree) (world : World) (fact : ℕ) (value : ℤ) (at : ℕ) (drivers : List DriverState) (runs0 : Runs) (are : AreRuns tree world drivers runs0) (facts1 : List ℤ) (set_is : facts1 ≡ set runs0.facts fact value) (begun : Block)
     (header_is : begun.header ≡ header.Change fact value at) (no_notes : begun.notes.list ≡ []) (no_facts : begun.facts.items ≡ []) (no_entries : begun.entries.items ≡ []) where
-  abbrev runs1 : Told → Runs
+  abbrev runs1 : Vec ℤ → Runs
   runs1 told = record { runners = runs0.runners; facts = facts1; told = told; last = at; usable = runs0.usable }
 
   abbrev s0 : RunState
@@ -119,8 +117,12 @@ module _ (tree : Tree) (world : World) (fact : ℕ) (value : ℤ) (at : ℕ) (dr
   pub change_fits : RunnersFit tree world facts1 drivers runs0.runners.items
   change_fits = fit_facts tree world runs0.facts facts1 drivers runs0.runners.items many_same are.fit
 
+  -- with this fact all facts are told
+  all_told : set runs0.told.items fact value ≡ facts1
+  all_told = ap (λ (xs : List ℤ). set xs fact value) are.told ∙ sym set_is
+
   -- the change was told
-  pub change_told : (told : Told) (block : Block) → block ≡ record begun { facts = block.facts } → block.facts.items ≡ begun.facts.items ++ changed_from 0 runs0.told.facts.items facts1 →
+  pub change_told : (told : Vec ℤ) (block : Block) → block ≡ record begun { facts = block.facts } → block.facts.items ≡ begun.facts.items ++ changed_from 0 runs0.told.items (set runs0.told.items fact value) →
       EventEnds (Ok tt) tree.term drivers drivers (runs1 told) block (change_step fact value at s0)
   change_told told block rest changed = (
     refl,
@@ -129,18 +131,18 @@ module _ (tree : Tree) (world : World) (fact : ℕ) (value : ℤ) (at : ℕ) (dr
       shown = λ i. record {
         header = (ap (λ (b : Block). b.header) rest ∙ header_is) i;
         notes = (ap (λ (b : Block). b.notes.list) rest ∙ no_notes) i;
-        facts = (changed ∙ (λ j. no_facts j ++ changed_from 0 (are.told j) (set_is j))) i;
+        facts = (changed ∙ (λ j. no_facts j ++ changed_from 0 (are.told j) ((all_told ∙ set_is) j))) i;
         entries = (ap (λ (b : Block). b.entries.items) rest ∙ no_entries ∙ sym (same_boards 1 (runners_in tree.term drivers runs0.runners.items))) i;
       };
       drivers = refl;
     },
   )
 
-  pub change_stays : (told : Told) → told.facts.items ≡ facts1 → told.boards ≡ runs0.told.boards → StayRuns tree world drivers (runs1 told)
-  change_stays told facts boards = record { usable = are.usable; fit = change_fits; told = facts; told_entries = ap (λ v. boards_told v.items) boards ∙ are.told_entries }
+  pub change_stays : (told : Vec ℤ) → told.items ≡ set runs0.told.items fact value → StayRuns tree world drivers (runs1 told)
+  change_stays told facts = record { usable = are.usable; fit = change_fits; told = facts ∙ all_told }
 
   -- there was want of memory
-  pub change_cut : (told : Told) (runs2 : Runs) (after : List DriverState) (n1 n2 : List Note) → n1 ≡ begun.notes.list → IsQuenched tree drivers after (runs1 told) runs2 n1 n2 → IsCutOff (arenas_of runs2) drivers after n2 (change_step fact value at s0)
+  pub change_cut : (told : Vec ℤ) (runs2 : Runs) (after : List DriverState) (n1 n2 : List Note) → n1 ≡ begun.notes.list → IsQuenched tree drivers after (runs1 told) runs2 n1 n2 → IsCutOff (arenas_of runs2) drivers after n2 (change_step fact value at s0)
   change_cut told runs2 after n1 n2 same q = record {
     told = [];
     untold = [];

@@ -1,5 +1,5 @@
 -- One runner's part of an event.
-use Rattle.std.specs.Prelude.{◌≡◌, ◌≤◌, ℕ, ℤ, List, ◌++◌, length, None, Result, Ok, Err}
+use Rattle.std.specs.Prelude.{◌≡◌, ◌≤◌, ℕ, ℤ, List, ◌++◌, length, Option, None, Result, Ok, Err}
 use Rattle.std.specs.Vec.{vec_capacity}
 use Rattle.base_texts.specs.declared.stop.Stop.{Stop}
 use Rattle.base_texts.specs.declared.stop.Stop.TheVariants as stop
@@ -8,6 +8,7 @@ use Rattle.spec_run.specs.declared.block.Header.TheVariants as header
 use Rattle.spec_run.specs.declared.fault.NodeFault.{NodeFault}
 use Rattle.spec_run.specs.declared.memory.Memory.{Memory}
 use Rattle.spec_run.specs.declared.note.Note.{Note}
+use Rattle.spec_script.specs.declared.value.Value.{Value}
 use Rattle.spec_tree.specs.declared.term.Term.{Term}
 use Rattle.spec_tree.specs.declared.term.Tree.{Tree}
 use Rattle.spec_world.specs.declared.world.What.TheVariants as what
@@ -17,6 +18,7 @@ use Rattle.spec_run.specs.Drivers.{DriverState}
 use Rattle.spec_run.specs.Run.{RunState, Runner, Stepped, reset_step, root_reset, root_view, runner_at, runner_calls}
 use Rattle.spec_run.specs.Run.{state_of, step_by, ticked, with_runner}
 use Rattle.base_tables.specs.Sound.{Dated, Sound}
+use Rattle.run_arena.specs.declared.arena.Arena.{Arena}
 use Rattle.run_arena.specs.declared.nodes.Node.{Node}
 use Rattle.run_arena.specs.Ends.{Meets}
 use Rattle.run_arena.specs.Noted.{calls_named}
@@ -69,6 +71,10 @@ turn_step of turn s = step_by_part turn.part of.tree of.world turn.runner turn.a
 
 -- ---- One runner
 
+-- a runner with this arena, over this blackboard
+abbrev pub acting : Arena → List (Option Value) → ReadyRunner
+acting arena board = record { arena = arena; board = board }
+
 abbrev pub scene_of : ReadyRunner → List ℤ → List DriverState → Scene
 scene_of r facts drivers = scene r.arena.kept.items r.board facts drivers
 
@@ -87,11 +93,11 @@ MeetsPart of part at result r old new told noted =
     Meets r.arena.nodes.items at (memory_of of.tree.term 1) result old new told noted
     (part_of part of.tree of.world r.arena.runner (memory_of of.tree.term 1 old.kept) (state_in r.arena.nodes.items old at))
 
--- what no event changes of a runner, and that its room for visits under way does not shrink
-pub record StaysRunner (old new : ReadyRunner) : Type 0 where
-  pub nodes : new.arena.nodes.items ≡ old.arena.nodes.items
-  pub number : new.arena.runner ≡ old.arena.runner
-  pub room : vec_capacity old.arena.frames ≤ vec_capacity new.arena.frames
+-- what no event changes of an arena, and that its room for visits under way does not shrink
+pub record StaysArena (old new : Arena) : Type 0 where
+  pub nodes : new.nodes.items ≡ old.nodes.items
+  pub number : new.runner ≡ old.runner
+  pub room : vec_capacity old.frames ≤ vec_capacity new.frames
 
 -- ---- All runners
 

@@ -18,7 +18,6 @@ use Rattle.run_arena.specs.Scenes.{Fits, scene}
 use Rattle.run_arena.specs.Stands.{memory_of}
 use Rattle.run_loop.specs.declared.runs.ReadyRunner.{ReadyRunner}
 use Rattle.run_loop.specs.declared.runs.Runs.{Runs}
-use Rattle.run_loop.specs.Telling.{boards_told}
 use Rattle.spec_script.specs.declared.value.Value.{Value}
 use Rattle.spec_run.specs.Served.{Setup}
 
@@ -114,8 +113,7 @@ RunsFit of drivers runs = RunnersFit of.tree of.world runs.facts drivers runs.ru
 pub record AreRuns (tree : Tree) (world : World) (drivers : List DriverState) (runs : Runs) : Type 0 where
   pub usable : runs.usable ≡ true
   pub fit : RunnersFit tree world runs.facts drivers runs.runners.items
-  pub told : runs.told.facts.items ≡ runs.facts
-  pub told_entries : boards_told runs.told.boards.items ≡ boards_in runs.runners.items
+  pub told : runs.told.items ≡ runs.facts
   pub steady : RunSteady tree.term world.rows (state_of_runs tree.term drivers runs)
 
 -- the blackboard of the runner of this number

@@ -1,4 +1,4 @@
-ghost use Rattle.std.specs.Prelude.{◌≡◌, ◌≤◌, ◌<◌, ◌+◌, [], OnOk, OnErr, Ok, Err, false, length, map};
+ghost use Rattle.std.specs.Prelude.{◌≡◌, ◌≤◌, ◌<◌, ◌+◌, ℕ, [], OnOk, OnErr, Ok, Err, false, length, map};
 ghost use Rattle.base_texts.specs.declared.stop.Stop.TheVariants as stop;
 ghost use Rattle.spec_run.specs.Drivers.{NothingHeld};
 ghost use Rattle.spec_run.specs.Run.{change_step, finish as finish_step, step};
@@ -13,10 +13,10 @@ use crate::beginning::begin;
 use crate::boxed::Roster;
 use crate::copying::copy_event;
 use crate::hearing::{Message, header_of, hear};
-use crate::parts::{Part, Turn, make_part_of};
+use crate::parts::{Acted, Part, Turn, make_part_of};
 use crate::quenching::quench_all;
 use crate::runs::Runs;
-use crate::telling::{tell_facts_in, tell_part};
+use crate::telling::{tell_fact_in, tell_facts_in};
 use base_texts::{NoMemory, Stop};
 use run_arena::{Block, Notes};
 use run_driver::{Driver, Drivers};
@@ -44,40 +44,39 @@ fn stop<D: Drivers>(runs: &mut Runs, drivers: &mut D, notes: &mut Notes)
     runs.usable = false;
 }
 
-/// Adds to the block what changed in the part of the runner of this number. The error is want of
+/// Adds to the block the facts that changed in the part of a runner, whose entries were told or not. The error is want of
 /// memory.
-fn tell(alloc: Global, number: u8, runs: &mut Runs, block: &mut Block) -> Result<(), NoMemory>
-    requires can { CanTell number runs.old }
-    ensures told { let boards = boards_in runs.old.runners.items in
-        OnOk result (IsTelling number runs.old.facts boards runs.old.told runs.new.told block.old block.new) }
+fn tell(told: Result<(), NoMemory>, runs: &mut Runs, block: &mut Block) -> Result<(), NoMemory>
+    requires can { CanTell runs.old }
+    ensures told { let before = runs.old.told.items in
+        OnOk result (IsTelling told runs.old.facts before runs.new.told.items block.old block.new) }
     ensures runs { runs.new ≡ record runs.old { told = runs.new.told } }
     ensures notes { block.new.notes ≡ block.old.notes }
 {
-    let board = &runs.runners[number as usize - 1].board;
-    tell_part(alloc, number, &mut runs.told, &runs.facts, board, block)
+    told?;
+    tell_facts_in(&mut runs.told, &runs.facts, block)
 }
 
 /// Ends an event after its runner's part was made: adds what changed. Where there is want of
 /// memory, all runners are quenched.
 fn end_part<D: Drivers>(
-    alloc: Global,
-    number: u8,
+    told: Result<(), NoMemory>,
     runs: &mut Runs,
     drivers: &mut D,
     block: &mut Block,
 ) -> Result<(), Stop<RunFault>>
-    requires can { CanTell number runs.old }
+    requires can { CanTell runs.old }
     requires fit { (of : Setup) × RunsFit of (D.states drivers.old) runs.old }
     requires room { leaves_of (arenas_of runs.old) ≤ block.old.notes.reserve }
     ensures closes { (of : Setup) → RunsFit of (D.states drivers.old) runs.old →
         let before = D.states drivers.old in
         let after = D.states drivers.new in
-        Closing (Ok tt) result of.tree number before after runs.old runs.new block.old block.new }
+        (number : ℕ) → Closing (Ok tt) told result of.tree number before after runs.old runs.new block.old block.new }
     ensures none { OnErr result (NothingHeld (D.states drivers.new)) }
     ensures usable { OnErr result (runs.new.usable ≡ false) }
     ensures full { block.new.notes.full ≡ block.old.notes.full }
 {
-    match tell(alloc, number, runs, block) {
+    match tell(told, runs, block) {
         Ok(()) => Ok(()),
         Err(NoMemory) => {
             stop(runs, drivers, &mut block.notes);
@@ -89,20 +88,20 @@ fn end_part<D: Drivers>(
 /// Ends an event after a node faulted in its runner's part: adds the note of the fault, quenches
 /// all runners, and adds what changed. The error is the fault, or want of memory.
 fn end_at_fault<D: Drivers>(
-    alloc: Global,
     number: u8,
     fault: NodeFault,
+    told: Result<(), NoMemory>,
     runs: &mut Runs,
     drivers: &mut D,
     block: &mut Block,
 ) -> Result<(), Stop<RunFault>>
-    requires can { CanTell number runs.old }
+    requires can { CanTell runs.old }
     requires fit { (of : Setup) × RunsFit of (D.states drivers.old) runs.old }
     requires room { leaves_of (arenas_of runs.old) + 1 ≤ block.old.notes.reserve }
     ensures closes { (of : Setup) → RunsFit of (D.states drivers.old) runs.old →
         let before = D.states drivers.old in
         let after = D.states drivers.new in
-        Closing (Err (stop.Fault fault)) result of.tree number before after runs.old runs.new block.old block.new }
+        Closing (Err (stop.Fault fault)) told result of.tree number before after runs.old runs.new block.old block.new }
     ensures none { NothingHeld (D.states drivers.new) }
     ensures usable { runs.new.usable ≡ false }
     ensures full { block.new.notes.full ≡ block.old.notes.full }
@@ -114,7 +113,7 @@ fn end_at_fault<D: Drivers>(
         cause,
     });
     stop(runs, drivers, &mut block.notes);
-    tell(alloc, number, runs, block)?;
+    tell(told, runs, block)?;
     Err(Stop::Fault(RunFault {
         runner: number,
         uid,
@@ -125,27 +124,27 @@ fn end_at_fault<D: Drivers>(
 /// Ends an event after its runner's part, whether that was made or stopped. The error is the fault
 /// of a node, or want of memory.
 fn end_event<D: Drivers>(
-    alloc: Global,
     number: u8,
-    ended: Result<(), Stop<NodeFault>>,
+    acted: Acted,
     runs: &mut Runs,
     drivers: &mut D,
     block: &mut Block,
 ) -> Result<(), Stop<RunFault>>
-    requires can { CanTell number runs.old }
+    requires can { CanTell runs.old }
     requires fit { (of : Setup) × RunsFit of (D.states drivers.old) runs.old }
     requires room { leaves_of (arenas_of runs.old) + 1 ≤ block.old.notes.reserve }
     ensures closes { (of : Setup) → RunsFit of (D.states drivers.old) runs.old →
         let before = D.states drivers.old in
         let after = D.states drivers.new in
-        Closing ended result of.tree number before after runs.old runs.new block.old block.new }
+        Closing acted.ended acted.told result of.tree number before after runs.old runs.new block.old block.new }
     ensures none { OnErr result (NothingHeld (D.states drivers.new)) }
     ensures usable { OnErr result (runs.new.usable ≡ false) }
     ensures full { block.new.notes.full ≡ block.old.notes.full }
 {
+    let Acted { ended, told } = acted;
     match ended {
-        Ok(()) => end_part(alloc, number, runs, drivers, block),
-        Err(Stop::Fault(fault)) => end_at_fault(alloc, number, fault, runs, drivers, block),
+        Ok(()) => end_part(told, runs, drivers, block),
+        Err(Stop::Fault(fault)) => end_at_fault(number, fault, told, runs, drivers, block),
         Err(Stop::NoMemory) => {
             stop(runs, drivers, &mut block.notes);
             Err(Stop::NoMemory)
@@ -170,8 +169,8 @@ fn run_part<D: Drivers>(
         EventLeft of result old new (turn_step of turn (kept_state of old)) }
 {
     begin(block, turn.header());
-    let ended = make_part_of(alloc, turn, runs, drivers, &mut block.notes);
-    end_event(alloc, turn.runner, ended, runs, drivers, block)
+    let acted = make_part_of(alloc, turn, runs, drivers, block);
+    end_event(turn.runner, acted, runs, drivers, block)
 }
 
 /// Gives a fact a value at the time `at` in milliseconds, and adds it to the block where it has
@@ -196,7 +195,7 @@ fn change_fact<D: Drivers>(
     begin(block, Header::Change { fact, value, at });
     runs.last = at;
     runs.facts.put(fact, value);
-    match tell_facts_in(&mut runs.told, &runs.facts, block) {
+    match tell_fact_in(&mut runs.told, fact, value, block) {
         Ok(()) => Ok(()),
         Err(NoMemory) => {
             stop(runs, drivers, &mut block.notes);

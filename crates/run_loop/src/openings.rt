@@ -8,63 +8,16 @@ ghost use Rattle.spec_world.specs.Runnable.{IsRunnableWorld};
 ghost use Rattle.run_arena.specs.Joining.{Joins};
 ghost use Rattle.spec_run.specs.Joins.{first_missing};
 ghost use Rattle.run_loop.specs.Opening.{AreOpening, AreOpeningRuns, IsOpening};
-ghost use Rattle.run_loop.specs.Runs.{boards_in};
-ghost use Rattle.run_loop.specs.Telling.{boards_told};
 
-use crate::runs::{ReadyRunner, Runs, Told};
+use crate::runs::{ReadyRunner, Runs};
 use base_texts::{NoMemory, Stop};
 use run_arena::{IndexedWorld, arena_of, first_arena_of};
 use run_driver::{Drivers, FactTable, facts_of};
 use spec_run::JoinFault;
-use spec_script::Value;
 use spec_tree::Tree;
 use spec_world::World;
 use std::alloc::Global;
 use tree_board::{Slots, board_of};
-
-/// A copy of an entry of a blackboard, or want of memory.
-fn copy_entry(alloc: Global, entry: &Option<Value>) -> Result<Option<Value>, NoMemory>
-    ensures { IfOk result (λ copied. copied ≡ entry.now) }
-{
-    match entry {
-        Some(value) => Ok(Some(value.copy(alloc)?)),
-        None => Ok(None),
-    }
-}
-
-/// Copies of these entries, by slot, or want of memory.
-fn copy_entries(alloc: Global, entries: &[Option<Value>]) -> Result<Vec<Option<Value>>, NoMemory>
-    ensures { IfOk result (λ copied. copied.items ≡ entries.now) }
-{
-    let mut copied = Vec::new(alloc);
-    for entry in entries {
-        copied.push(copy_entry(alloc, entry)?)?;
-    }
-    Ok(copied)
-}
-
-/// Copies of the entries of each runner's blackboard, or want of memory.
-fn entries_of(alloc: Global, runners: &[ReadyRunner]) -> Result<Vec<Vec<Option<Value>>>, NoMemory>
-    ensures { IfOk result (λ boards. boards_told boards.items ≡ boards_in runners.now) }
-{
-    let mut boards = Vec::new(alloc);
-    for runner in runners {
-        boards.push(copy_entries(alloc, runner.board.list())?)?;
-    }
-    Ok(boards)
-}
-
-/// What counts as told before the first block: all facts and entries, since a block tells what has
-/// changed. The error is want of memory.
-fn told_of(alloc: Global, facts: &FactTable, runners: &[ReadyRunner]) -> Result<Told, NoMemory>
-    ensures facts { IfOk result (λ told. told.facts.items ≡ facts.now) }
-    ensures boards { IfOk result (λ told. boards_told told.boards.items ≡ boards_in runners.now) }
-{
-    Ok(Told {
-        facts: facts.list().to_vec(alloc)?,
-        boards: entries_of(alloc, runners)?,
-    })
-}
 
 /// The runner of this number before the first event. The fault is what is missing for the first
 /// leaf for which something is missing.
@@ -120,7 +73,7 @@ fn runs_with(alloc: Global, world: &World, runners: Vec<ReadyRunner>) -> Result<
         IfOk result (AreOpeningRuns tree world.now drivers) }
 {
     let facts = facts_of(alloc, world)?;
-    let told = told_of(alloc, &facts, runners.as_slice())?;
+    let told = facts.list().to_vec(alloc)?;
     Ok(Runs {
         runners,
         facts,

@@ -2,7 +2,6 @@ ghost use Rattle.std.specs.Prelude.{◌≡◌};
 
 use run_arena::Arena;
 use run_driver::FactTable;
-use spec_script::Value;
 use tree_board::Board;
 
 /// A runner of a run: its arena and its blackboard.
@@ -12,21 +11,13 @@ pub struct ReadyRunner {
     pub board: Board,
 }
 
-/// What the blocks of a run have told so far.
-#[derive(Debug, Drop)]
-pub struct Told {
-    /// The facts, by their number.
-    pub facts: Vec<i64>,
-    /// The entries of each runner's blackboard, by slot.
-    pub boards: Vec<Vec<Option<Value>>>,
-}
-
 /// The runners of a run, numbered from 1, and the facts that they share.
 #[derive(Debug, Drop)]
 pub struct Runs {
     pub runners: Vec<ReadyRunner>,
     pub facts: FactTable,
-    pub told: Told,
+    /// The facts that the blocks of the run have told so far, by their number.
+    pub told: Vec<i64>,
     /// The time of the last event, in milliseconds.
     pub last: u64,
     /// Whether another event may come: none has ended with a fault or for want of memory.

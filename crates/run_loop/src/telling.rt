@@ -1,15 +1,14 @@
 ghost use Rattle.std.specs.Prelude.{◌≡◌, ◌≤◌, ◌<◌, ◌-◌, ◌^◌, ◌++◌, ◌+◌, ℕ, ℤ, List, IsTrue, OnOk, Some, Option, length, slice_set};
 ghost use Rattle.spec_script.specs.declared.value.Value.{Value as Content};
 ghost use Rattle.spec_run.specs.Run.{changed_entries, changed_from, had, with_change};
-ghost use Rattle.run_loop.specs.Telling.{boards_told, entries_told, with_fact};
+ghost use Rattle.run_loop.specs.Telling.{with_fact};
 
-use crate::runs::Told;
 use base_texts::NoMemory;
 use run_arena::Block;
 use run_driver::FactTable;
 use spec_script::Value;
 use std::alloc::Global;
-use tree_board::Board;
+use tree_board::{Past, Recorded};
 
 /// How many facts are compared at once.
 const GROUP: usize = 8;
@@ -126,118 +125,82 @@ fn already(old: &Option<Value>, new: &Value) -> bool
     }
 }
 
-/// Adds an entry to the changes where it is new or differs from what was told, and records it as
-/// told. The error is want of memory.
+/// Adds an entry to the changes where it is new or differs from what it was. The error is want of memory.
 fn tell_entry(
     alloc: Global,
     runner: u8,
     slot: u32,
-    told: &mut Option<Value>,
+    before: &Option<Value>,
     entry: &Option<Value>,
     changes: &mut Vec<(u8, u32, Value)>,
 ) -> Result<(), NoMemory>
-    ensures changes { OnOk result ((rest : List (ℕ × ℕ × Content)) →
-        changes.new.items ++ rest ≡ changes.old.items ++ with_change runner slot told.old entry.now rest) }
-    ensures told { OnOk result (told.new ≡ entry.now) }
+    ensures { OnOk result ((rest : List (ℕ × ℕ × Content)) →
+        changes.new.items ++ rest ≡ changes.old.items ++ with_change runner slot before.now entry.now rest) }
 {
-    match entry {
-        Some(value) => {
-            if !already(told, value) {
-                changes.push((runner, slot, value.copy(alloc)?))?;
-                *told = Some(value.copy(alloc)?);
-            }
+    if let Some(value) = entry {
+        if !already(before, value) {
+            changes.push((runner, slot, value.copy(alloc)?))?;
         }
-        None => *told = None,
     }
     Ok(())
 }
 
-/// Adds the entries of a runner's blackboard that are new or differ from what was told to the
-/// changes, and records them as told. The error is want of memory.
-fn tell_entries(
+/// Adds the entries of a runner's blackboard that are new or have changed since the event began to the changes. Only those
+/// that were written are looked at. The error is want of memory.
+pub fn tell_entries<P: Past>(
     alloc: Global,
     runner: u8,
-    told: &mut Vec<Option<Value>>,
-    board: &[Option<Value>],
+    board: &Recorded<P>,
     changes: &mut Vec<(u8, u32, Value)>,
 ) -> Result<(), NoMemory>
-    requires same { length told.old.items ≡ length board.now }
     requires few { length board.now < 2 ^ 32 }
-    ensures changes { OnOk result (changes.new.items ≡ changes.old.items ++ changed_entries runner 0 told.old.items board.now) }
-    ensures told { OnOk result (told.new.items ≡ board.now) }
+    ensures { OnOk result (changes.new.items ≡ changes.old.items ++ changed_entries runner 0 P.past board.now) }
 {
-    for (slot, entry) in board.iter().enumerate() {
-        tell_entry(alloc, runner, slot as u32, &mut told[slot], entry, changes)?;
+    let entries = board.list();
+    let mut slot = board.next_written(0);
+    while slot < entries.len() {
+        tell_entry(
+            alloc,
+            runner,
+            slot as u32,
+            board.past(slot),
+            &entries[slot],
+            changes,
+        )?;
+        slot = board.next_written(slot + 1);
     }
     Ok(())
-}
-
-/// Adds the entries that are new or differ from what was told, of the blackboard of the runner of
-/// this number, and records them as told. The error is want of memory.
-fn tell_board(
-    alloc: Global,
-    number: u8,
-    told: &mut [Vec<Option<Value>>],
-    board: &Board,
-    changes: &mut Vec<(u8, u32, Value)>,
-) -> Result<(), NoMemory>
-    requires first { 1 ≤ number }
-    requires last { number ≤ length told.old }
-    requires same { length (entries_told told.old number) ≡ length board.now }
-    requires few { length board.now < 2 ^ 32 }
-    ensures changes { let before = entries_told told.old number in
-        OnOk result (changes.new.items ≡ changes.old.items ++ changed_entries number 0 before board.now) }
-    ensures told { OnOk result (boards_told told.new ≡ slice_set (boards_told told.old) (number - 1) board.now) }
-{
-    tell_entries(
-        alloc,
-        number,
-        &mut told[number as usize - 1],
-        board.list(),
-        changes,
-    )
 }
 
 /// Adds to a block the facts that differ from what was told, and records them as told. The error is
 /// want of memory.
-pub fn tell_facts_in(told: &mut Told, facts: &FactTable, block: &mut Block) -> Result<(), NoMemory>
-    requires same { length told.old.facts.items ≡ length facts.now }
-    requires few { length facts.now < 2 ^ 32 }
-    ensures facts { let before = told.old.facts.items in
-        OnOk result (block.new.facts.items ≡ block.old.facts.items ++ changed_from 0 before facts.now) }
-    ensures told { OnOk result (told.new.facts.items ≡ facts.now) }
-    ensures boards { told.new.boards ≡ told.old.boards }
-    ensures rest { block.new ≡ record block.old { facts = block.new.facts } }
-{
-    tell_facts(&mut told.facts, facts.list(), &mut block.facts)
-}
-
-/// Adds to a block the facts, and the entries of the blackboard of the runner of this number, that
-/// are new or differ from what was told, and records them as told. The error is want of memory.
-pub fn tell_part(
-    alloc: Global,
-    number: u8,
-    told: &mut Told,
+pub fn tell_facts_in(
+    told: &mut Vec<i64>,
     facts: &FactTable,
-    board: &Board,
     block: &mut Block,
 ) -> Result<(), NoMemory>
-    requires first { 1 ≤ number }
-    requires last { number ≤ length told.old.boards.items }
-    requires same_facts { length told.old.facts.items ≡ length facts.now }
-    requires few_facts { length facts.now < 2 ^ 32 }
-    requires same { length (entries_told told.old.boards.items number) ≡ length board.now }
-    requires few { length board.now < 2 ^ 32 }
-    ensures facts { let before = told.old.facts.items in
-        OnOk result (block.new.facts.items ≡ block.old.facts.items ++ changed_from 0 before facts.now) }
-    ensures entries { let before = entries_told told.old.boards.items number in
-        OnOk result (block.new.entries.items ≡ block.old.entries.items ++ changed_entries number 0 before board.now) }
-    ensures told { OnOk result (told.new.facts.items ≡ facts.now) }
-    ensures boards { let before = boards_told told.old.boards.items in
-        OnOk result (boards_told told.new.boards.items ≡ slice_set before (number - 1) board.now) }
-    ensures header { block.new.header ≡ block.old.header }
-    ensures notes { block.new.notes ≡ block.old.notes }
+    requires same { length told.old.items ≡ length facts.now }
+    requires few { length facts.now < 2 ^ 32 }
+    ensures facts { OnOk result (block.new.facts.items ≡ block.old.facts.items ++ changed_from 0 told.old.items facts.now) }
+    ensures told { OnOk result (told.new.items ≡ facts.now) }
+    ensures rest { block.new ≡ record block.old { facts = block.new.facts } }
 {
-    tell_facts_in(told, facts, block)?;
-    tell_board(alloc, number, &mut told.boards, board, &mut block.entries)
+    tell_facts(told.as_mut_slice(), facts.list(), &mut block.facts)
+}
+
+/// Adds to a block the one fact that may differ from what was told, which has this value now, and records it as told. The
+/// error is want of memory.
+pub fn tell_fact_in(
+    told: &mut Vec<i64>,
+    fact: u32,
+    value: i64,
+    block: &mut Block,
+) -> Result<(), NoMemory>
+    requires { fact < length told.old.items }
+    ensures facts { let now = slice_set told.old.items fact value in
+        OnOk result (block.new.facts.items ≡ block.old.facts.items ++ changed_from 0 told.old.items now) }
+    ensures told { OnOk result (told.new.items ≡ slice_set told.old.items fact value) }
+    ensures rest { block.new ≡ record block.old { facts = block.new.facts } }
+{
+    tell_fact(fact, &mut told[fact as usize], &value, &mut block.facts)
 }

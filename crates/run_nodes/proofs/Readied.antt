@@ -76,9 +76,9 @@ in_phase way status.Failure inputs before after now is was = ap (λ (i : Instanc
 begins_anew : (st : Status) → phase_of st ≡ phase.Start → st ≡ status.Running → ⊥
 begins_anew st begins is = let both : phase.Start ≡ phase.Running = sym begins ∙ ap phase_of is in cc (both)
 
-module _ {D : Type 0} (states : D → List DriverState) (st : Status) (leaf : ReadyLeaf) where
+module _ {D P : Type 0} (states : D → List DriverState) (st : Status) (leaf : ReadyLeaf) where
   -- its driver keeps nothing
-  pub readied_same : (s : Stage D) → CallableOn states s st leaf →
+  pub readied_same : (s : Stage D P) → CallableOn states s st leaf →
       instance_at (states s.drivers.now) leaf.driver leaf.instance ≡ instance_kept leaf st s.board.now (states s.drivers.now) → IsReadied states st leaf s s
   readied_same s can is = record {
     same = same_here s;
@@ -92,7 +92,7 @@ module _ {D : Type 0} (states : D → List DriverState) (st : Status) (leaf : Re
   }
 
   -- its driver keeps what the inputs hold
-  pub readied_kept : (old new : Stage D) → CallableOn states old st leaf → 0 < length leaf.inputs → is_told_way (rule leaf.row).way ≡ true → phase_of st ≡ phase.Start →
+  pub readied_kept : (old new : Stage D P) → CallableOn states old st leaf → 0 < length leaf.inputs → is_told_way (rule leaf.row).way ≡ true → phase_of st ≡ phase.Start →
       IsSame old new → new.kept.now ≡ old.kept.now → new.board.now ≡ old.board.now → new.facts.now ≡ old.facts.now → new.notes.now ≡ old.notes.now →
       states new.drivers.now ≡ roster_kept (states old.drivers.now) leaf.driver leaf.instance (values_held old.board.now leaf.inputs) → IsReadied states st leaf old new
   readied_kept old new can some told begins same kept board facts notes was =
@@ -115,7 +115,7 @@ module _ {D : Type 0} (states : D → List DriverState) (st : Status) (leaf : Re
       }
 
   -- and it can be called
-  pub callable_after : (old new : Stage D) → IsReadied states st leaf old new → CallableOn states old st leaf → CallableOn states new st leaf
+  pub callable_after : (old new : Stage D P) → IsReadied states st leaf old new → CallableOn states old st leaf → CallableOn states new st leaf
   callable_after old new is can = record {
     read = subst (λ (board : List (Option Value)). All (IsSourceOf (length board)) leaf.inputs) (sym is.board) can.read;
     few_inputs = can.few_inputs;

@@ -115,27 +115,27 @@ as_given (Err stop) = Err stop
 -- ---- Calls on a stage
 
 -- a leaf on a stage can be called to begin, or to go on, as its status says
-abbrev pub PhaseOn : {D : Type 0} → (D → List DriverState) → Stage D → ℕ → Type 0
+abbrev pub PhaseOn : {D P : Type 0} → (D → List DriverState) → Stage D P → ℕ → Type 0
 PhaseOn states s uid =
     (leaf : ReadyLeaf) → leaf_at s.nodes.now uid ≡ Some leaf →
     IsInPhase (kept_at s.kept.now uid).status (instance_at (states s.drivers.now) leaf.driver leaf.instance) s.moment
 
 -- a leaf of this status can be called there
-abbrev pub CallableOn : {D : Type 0} → (D → List DriverState) → Stage D → Status → ReadyLeaf → Type 0
+abbrev pub CallableOn : {D P : Type 0} → (D → List DriverState) → Stage D P → Status → ReadyLeaf → Type 0
 CallableOn states s status leaf = CanBeCalled (length s.board.now) (length s.facts.now) (states s.drivers.now) status s.moment leaf
 
 -- what a call of its driver with these inputs leaves
-abbrev pub answer_to : {D : Type 0} → (D → List DriverState) → Stage D → Status → ReadyLeaf → List Seen → Answered
+abbrev pub answer_to : {D P : Type 0} → (D → List DriverState) → Stage D P → Status → ReadyLeaf → List Seen → Answered
 answer_to states s status leaf inputs =
     roster_answer (states s.drivers.now) leaf.driver leaf.instance (rule leaf.row) (phase_of status) inputs s.facts.now s.moment
 
 -- what a call of its driver with its own inputs leaves
-abbrev pub answer_on : {D : Type 0} → (D → List DriverState) → Stage D → Status → ReadyLeaf → Answered
+abbrev pub answer_on : {D P : Type 0} → (D → List DriverState) → Stage D P → Status → ReadyLeaf → Answered
 answer_on states s status leaf = answer_to states s status leaf (padded (seen_inputs s.board.now leaf.inputs))
 
 -- Its driver keeps the inputs of a start where it is to, and is otherwise as it was: what a call leaves of it is the same,
 -- and nothing else has changed.
-pub record IsReadied {D : Type 0} (states : D → List DriverState) (status : Status) (leaf : ReadyLeaf) (old new : Stage D) : Type 0 where
+pub record IsReadied {D P : Type 0} (states : D → List DriverState) (status : Status) (leaf : ReadyLeaf) (old new : Stage D P) : Type 0 where
   pub same : IsSame old new
   pub kept : new.kept.now ≡ old.kept.now
   pub board : new.board.now ≡ old.board.now
@@ -148,7 +148,7 @@ pub record IsReadied {D : Type 0} (states : D → List DriverState) (status : St
 
 -- Its driver was called and gave this answer: the facts and its instance are those after the call, and what nodes keep
 -- and the notes are as they were.
-pub record WasAsked {D : Type 0} (states : D → List DriverState) (status : Status) (leaf : ReadyLeaf) (a : Answered) (old new : Stage D)
+pub record WasAsked {D P : Type 0} (states : D → List DriverState) (status : Status) (leaf : ReadyLeaf) (a : Answered) (old new : Stage D P)
     : Type 0 where
   pub same : IsSame old new
   pub kept : new.kept.now ≡ old.kept.now

@@ -53,24 +53,24 @@ in_stop (Err fault) = Err (Fault fault)
 -- ---- A node of a term on a stage
 
 -- it is the one of this uid
-abbrev pub FitsHereOn : {D : Type 0} → (D → List DriverState) → Stage D → ℕ → Term-F Meaning → View → Type 0
+abbrev pub FitsHereOn : {D P : Type 0} → (D → List DriverState) → Stage D P → ℕ → Term-F Meaning → View → Type 0
 FitsHereOn states s uid term view = FitsHere term view uid s.nodes.now (scene_on states s)
 
 -- its rule
-abbrev pub rule_on : {D : Type 0} → (D → List DriverState) → Stage D → ℕ → Term-F Meaning → View → List Memory → Done Given (List Memory)
+abbrev pub rule_on : {D P : Type 0} → (D → List DriverState) → Stage D P → ℕ → Term-F Meaning → View → List Memory → Done Given (List Memory)
 rule_on states s uid term view ms =
     node_rule term.kind (site_of term view uid) (kept_at s.kept.now uid).status (kept_at s.kept.now uid).memo ms (state_on states s)
 
 -- the call of its driver, where it is a leaf
-abbrev pub call_on : {D : Type 0} → (D → List DriverState) → Stage D → ℕ → Term-F Meaning → View → List Memory → Done Given (List Memory)
+abbrev pub call_on : {D P : Type 0} → (D → List DriverState) → Stage D P → ℕ → Term-F Meaning → View → List Memory → Done Given (List Memory)
 call_on states s uid term view ms =
     leaf_call (row_of view.rows term.id) (site_of term view uid) (kept_at s.kept.now uid).status ms (state_on states s)
 
 -- its visit from its rule on
-abbrev pub ruled_on : {D : Type 0} → (D → List DriverState) → Stage D → ℕ → Term → View → Done Answer Memory
+abbrev pub ruled_on : {D P : Type 0} → (D → List DriverState) → Stage D P → ℕ → Term → View → Done Answer Memory
 ruled_on states s uid term view = ruled_in s.nodes.now s.moment term view uid (scene_on states s)
 
 -- the end of its visit with this answer and this memo
-abbrev pub ended_on : {D : Type 0} → (D → List DriverState) → Stage D → ℕ → Given → Term → View → Done Answer Memory
+abbrev pub ended_on : {D P : Type 0} → (D → List DriverState) → Stage D P → ℕ → Given → Term → View → Done Answer Memory
 ended_on states s uid given term view =
     ended (site_at view uid term) (kept_at s.kept.now uid).status given (children_in term uid s.kept.now) (state_on states s)

@@ -27,15 +27,15 @@ use script_code::Code;
 use spec_run::{Answer, Memo, NodeFault};
 use spec_tree::Kind;
 use std::alloc::Global;
-use tree_board::Board;
+use tree_board::{Past, Recorded};
 
 /// Visits the Script node with this uid: its code runs, and the answer is SUCCESS. The error is a
 /// fault of the code, or want of memory (out of memory).
-fn script_node(
+fn script_node<P: Past>(
     alloc: Global,
     code: &Option<Code>,
     uid: u32,
-    board: &mut Board,
+    board: &mut Recorded<P>,
 ) -> Result<Answer, Stop<NodeFault>>
     requires { NeedsAtMost (length board.old) code.now }
     ensures settles { (term : Term-F Meaning) (view : View) (script : Option Script) (ms : List Memory) (s : State) →
@@ -55,11 +55,11 @@ fn script_node(
 
 /// Visits the ScriptCondition with this uid: SUCCESS where its code is true, else FAILURE. The
 /// error is a fault of the code, or want of memory.
-fn script_condition(
+fn script_condition<P: Past>(
     alloc: Global,
     code: &Option<Code>,
     uid: u32,
-    board: &mut Board,
+    board: &mut Recorded<P>,
 ) -> Result<Answer, Stop<NodeFault>>
     requires { NeedsAtMost (length board.old) code.now }
     ensures settles { (term : Term-F Meaning) (view : View) (script : Option Script) (ms : List Memory) (s : State) →
@@ -89,8 +89,8 @@ fn answer_where(holds: bool) -> Answer
 /// driver is called, a script node runs its code, and AlwaysSuccess and AlwaysFailure answer as their
 /// names say. The memo stays as it was. The error is a fault of the node, or want of memory.
 #[inline(always)]
-fn lone_rule<D: Drivers>(
-    stage: &mut Stage<D>,
+fn lone_rule<D: Drivers, P: Past>(
+    stage: &mut Stage<D, P>,
     uid: u32,
     kind: Kind,
 ) -> Result<Answer, Stop<NodeFault>>
@@ -124,8 +124,8 @@ fn lone_rule<D: Drivers>(
 /// visit by a guard, and ends the visit. It is inlined, so that a caller who knows the kind visits
 /// without a test for it. The error is a fault of the node, or want of memory.
 #[inline(always)]
-pub fn visit_alone<D: Drivers>(
-    stage: &mut Stage<D>,
+pub fn visit_alone<D: Drivers, P: Past>(
+    stage: &mut Stage<D, P>,
     uid: u32,
     kind: Kind,
 ) -> Result<Answer, Stop<NodeFault>>

@@ -15,6 +15,7 @@ use base_texts::{NoMemory, Stop};
 use run_arena::{Kept, Notes, ReadyGuards, Stage, kept_by, node, set_memo, set_status};
 use run_driver::Drivers;
 use spec_run::{Answer, Memo, NodeFault, Note, Status};
+use tree_board::Past;
 
 /// The status of a node after this answer.
 fn status_of(answer: Answer) -> Status
@@ -59,8 +60,8 @@ fn keep_memo(kept: &mut [Kept], uid: u32, memo: Memo)
 /// after the answer run, and then the status becomes that of the answer, with a note. The error is
 /// a fault of a script, or want of memory.
 #[inline(always)]
-fn end_node<D: Drivers>(
-    stage: &mut Stage<D>,
+fn end_node<D: Drivers, P: Past>(
+    stage: &mut Stage<D, P>,
     guards: &ReadyGuards,
     uid: u32,
     answer: Answer,
@@ -92,8 +93,8 @@ fn end_node<D: Drivers>(
 /// the scripts after the answer run, and then the status becomes that of the answer, with a note.
 /// The error is a fault of a script, which leaves the status as it was, or want of memory.
 #[inline(always)]
-pub fn end_visit<D: Drivers>(
-    stage: &mut Stage<D>,
+pub fn end_visit<D: Drivers, P: Past>(
+    stage: &mut Stage<D, P>,
     uid: u32,
     answer: Answer,
     memo: Memo,

@@ -28,7 +28,7 @@ use spec_run::{Answer, NodeFault, Note, Reply, Status};
 use spec_script::{Cells, Seen, Value};
 use spec_world::ToldOut;
 use std::alloc::Global;
-use tree_board::Board;
+use tree_board::{Past, Recorded};
 
 /// The inputs that a driver sees of a leaf without inputs.
 static NO_INPUTS: Inputs = [Seen::Absent; 8];
@@ -36,7 +36,7 @@ static NO_INPUTS: Inputs = [Seen::Absent; 8];
 /// Fills in what a driver sees of these inputs; the places after them stay absent. It is not
 /// inlined, since most leaves have none.
 #[inline(never)]
-fn see_inputs(sources: &[Source], board: &Board, inputs: &mut Inputs)
+fn see_inputs<P: Past>(sources: &[Source], board: &Recorded<P>, inputs: &mut Inputs)
     requires read { All (IsSourceOf (length board.now)) sources.now }
     requires few { length sources.now ≤ 8 }
     requires absent { inputs.old ≡ replicate 8 Absent }
@@ -48,7 +48,11 @@ fn see_inputs(sources: &[Source], board: &Board, inputs: &mut Inputs)
 }
 
 /// A copy of the value that a port is given; none where it has none. The error is want of memory.
-fn copy_value(alloc: Global, source: &Source, board: &Board) -> Result<Option<Value>, NoMemory>
+fn copy_value<P: Past>(
+    alloc: Global,
+    source: &Source,
+    board: &Recorded<P>,
+) -> Result<Option<Value>, NoMemory>
     requires { IsSourceOf (length board.now) source.now }
     ensures { IfOk result (λ value. value ≡ source_value board.now source.now) }
 {
@@ -59,10 +63,10 @@ fn copy_value(alloc: Global, source: &Source, board: &Board) -> Result<Option<Va
 }
 
 /// Copies of what these inputs hold. The error is want of memory.
-fn copy_values(
+fn copy_values<P: Past>(
     alloc: Global,
     sources: &[Source],
-    board: &Board,
+    board: &Recorded<P>,
 ) -> Result<Items<Option<Value>>, NoMemory>
     requires { All (IsSourceOf (length board.now)) sources.now }
     ensures { IfOk result (λ values. values ≡ values_held board.now sources.now) }
@@ -75,7 +79,7 @@ fn copy_values(
 }
 
 /// Writes a number where a slot is given.
-fn write_number(source: &Source, n: i64, board: &mut Board)
+fn write_number<P: Past>(source: &Source, n: i64, board: &mut Recorded<P>)
     requires { IsSourceOf (length board.old) source.now }
     ensures written { board.new ≡ number_written source.now n board.old }
     ensures slots { length board.new ≡ length board.old }
@@ -87,7 +91,7 @@ fn write_number(source: &Source, n: i64, board: &mut Board)
 }
 
 /// Writes the numbers in order, each where a slot is given.
-fn write_numbers(sources: &[Source], numbers: &[i64], board: &mut Board)
+fn write_numbers<P: Past>(sources: &[Source], numbers: &[i64], board: &mut Recorded<P>)
     requires { All (IsSourceOf (length board.old)) sources.now }
     ensures written { board.new ≡ outputs_written sources.now numbers.now board.old }
     ensures slots { length board.new ≡ length board.old }
@@ -126,7 +130,7 @@ fn take_value(told: &mut Vec<ToldOut>, name: &Name) -> Option<Value>
 }
 
 /// Puts a value that was told where a slot is given, and drops it else.
-fn write_value(source: &Source, value: Option<Value>, board: &mut Board)
+fn write_value<P: Past>(source: &Source, value: Option<Value>, board: &mut Recorded<P>)
     requires { IsSourceOf (length board.old) source.now }
     ensures written { board.new ≡ value_written source.now value board.old }
     ensures slots { length board.new ≡ length board.old }
@@ -142,7 +146,12 @@ fn write_value(source: &Source, value: Option<Value>, board: &mut Board)
 
 /// Writes the values that were told for outputs of these names, in the order of the names, each where a slot is given:
 /// each value is moved, and nothing is copied.
-fn write_told(names: &[Name], sources: &[Source], mut told: Vec<ToldOut>, board: &mut Board)
+fn write_told<P: Past>(
+    names: &[Name],
+    sources: &[Source],
+    mut told: Vec<ToldOut>,
+    board: &mut Recorded<P>,
+)
     requires read { All (IsSourceOf (length board.old)) sources.now }
     requires names { IsDistinct bytes_eq names.now }
     ensures written { board.new ≡ told_written names.now sources.now told.items board.old }
@@ -170,7 +179,7 @@ fn names_told(sort: &ReadySort) -> &[Name]
 /// Writes the outputs of a leaf, each where a slot is given: the values that were told where its row has names for them,
 /// and else the numbers. It is not inlined since most leaves have none.
 #[inline(never)]
-fn write_outputs(leaf: &ReadyLeaf, outs: &mut Outs, board: &mut Board)
+fn write_outputs<P: Past>(leaf: &ReadyLeaf, outs: &mut Outs, board: &mut Recorded<P>)
     requires read { All (IsSourceOf (length board.old)) leaf.now.outputs }
     requires names { IsDistinct bytes_eq (ready_told leaf.now.row.sort) }
     ensures written { board.new ≡ leaf_written (ready_told leaf.now.row.sort) leaf.now.outputs outs.old board.old }
@@ -202,8 +211,8 @@ fn asked_at(status: Status) -> CallPhase
 /// Lets the driver of a leaf of this status with inputs keep what they hold, where the leaf is told what it answers and is
 /// to begin. It is not inlined since most leaves have none. The error is want of memory: then nothing has changed.
 #[inline(never)]
-fn keep_start<D: Drivers>(
-    stage: &mut Stage<D>,
+fn keep_start<D: Drivers, P: Past>(
+    stage: &mut Stage<D, P>,
     leaf: &ReadyLeaf,
     status: Status,
 ) -> Result<(), NoMemory>
@@ -230,8 +239,8 @@ fn keep_start<D: Drivers>(
 /// Lets the driver of a leaf of this status keep the inputs of a start where it is to. The error is want of memory: then
 /// nothing has changed.
 #[inline(always)]
-fn keep_inputs<D: Drivers>(
-    stage: &mut Stage<D>,
+fn keep_inputs<D: Drivers, P: Past>(
+    stage: &mut Stage<D, P>,
     leaf: &ReadyLeaf,
     status: Status,
 ) -> Result<(), NoMemory>
@@ -247,8 +256,8 @@ fn keep_inputs<D: Drivers>(
 
 /// Calls the driver of a leaf of this status.
 #[inline(always)]
-fn call_driver<D: Drivers>(
-    stage: &mut Stage<D>,
+fn call_driver<D: Drivers, P: Past>(
+    stage: &mut Stage<D, P>,
     leaf: &ReadyLeaf,
     status: Status,
     inputs: &Inputs,
@@ -276,8 +285,8 @@ fn call_driver<D: Drivers>(
 /// Calls the driver of a leaf of this status with its inputs. One that is told what it answers looks at none of them, and
 /// may have more than are seen.
 #[inline(always)]
-fn call_with_inputs<D: Drivers>(
-    stage: &mut Stage<D>,
+fn call_with_inputs<D: Drivers, P: Past>(
+    stage: &mut Stage<D, P>,
     leaf: &ReadyLeaf,
     status: Status,
     outs: &mut Outs,
@@ -298,7 +307,7 @@ fn call_with_inputs<D: Drivers>(
 
 /// Writes the outputs of a call whose reply was SUCCESS.
 #[inline(always)]
-fn write_answer(reply: Reply, leaf: &ReadyLeaf, outs: &mut Outs, board: &mut Board)
+fn write_answer<P: Past>(reply: Reply, leaf: &ReadyLeaf, outs: &mut Outs, board: &mut Recorded<P>)
     requires read { All (IsSourceOf (length board.old)) leaf.now.outputs }
     requires names { IsDistinct bytes_eq (ready_told leaf.now.row.sort) }
     ensures written { board.new ≡ board_left reply leaf.now outs.old board.old }
@@ -315,7 +324,11 @@ fn write_answer(reply: Reply, leaf: &ReadyLeaf, outs: &mut Outs, board: &mut Boa
 
 /// Calls the driver of a leaf of this status with its inputs, and writes its outputs.
 #[inline(always)]
-fn make_call<D: Drivers>(stage: &mut Stage<D>, leaf: &ReadyLeaf, status: Status) -> Reply
+fn make_call<D: Drivers, P: Past>(
+    stage: &mut Stage<D, P>,
+    leaf: &ReadyLeaf,
+    status: Status,
+) -> Reply
     requires { CallableOn D.states stage.old status leaf.now }
     ensures reply { result ≡ (answer_on D.states stage.old status leaf.now).reply }
     ensures asked { WasAsked D.states status leaf.now (answer_on D.states stage.old status leaf.now) stage.old stage.new }
@@ -394,8 +407,8 @@ fn tell(
 /// so that each call that was made has its note, and so are the inputs that its driver is to keep.
 /// The error is the leaf's fault, or want of memory, which comes before the call.
 #[inline(always)]
-pub fn leaf_call<D: Drivers>(
-    stage: &mut Stage<D>,
+pub fn leaf_call<D: Drivers, P: Past>(
+    stage: &mut Stage<D, P>,
     leaf: &ReadyLeaf,
     uid: u32,
 ) -> Result<Answer, Stop<NodeFault>>

@@ -26,7 +26,7 @@ use spec_run::{
 };
 use spec_script::Value;
 use spec_tree::{Kind, Range};
-use tree_board::Board;
+use tree_board::{Past, Recorded};
 
 /// The place of the next child, as a memo keeps it.
 fn index_of(memo: Memo) -> u32
@@ -101,7 +101,7 @@ fn since_start(port: PortId, now: u64, length: Option<i64>) -> Result<Memo, Port
 }
 
 /// The number that the port at this place is given; none where it is given none.
-fn number_at(node: &Node, place: usize, board: &Board) -> Option<i64>
+fn number_at<P: Past>(node: &Node, place: usize, board: &Recorded<P>) -> Option<i64>
     requires ports { HasPorts (length board.now) node.now }
     requires there { place < length node.now.ports }
     ensures { result ≡ source_number board.now (port_at node.now place) }
@@ -110,7 +110,7 @@ fn number_at(node: &Node, place: usize, board: &Board) -> Option<i64>
 }
 
 /// The rate that the port at this place is given, in thousandths of a hertz; none where it is given none.
-fn rate_at(node: &Node, place: usize, board: &Board) -> Option<u32>
+fn rate_at<P: Past>(node: &Node, place: usize, board: &Recorded<P>) -> Option<u32>
     requires ports { HasPorts (length board.now) node.now }
     requires there { place < length node.now.ports }
     ensures { result ≡ source_rate board.now (port_at node.now place) }
@@ -122,7 +122,7 @@ fn rate_at(node: &Node, place: usize, board: &Board) -> Option<u32>
 /// those of other kinds that read numbers, so that room for what they make is cleared only there. The
 /// error is the port whose count is out of range, and then the memo stays.
 #[inline(never)]
-fn start_parallel(node: &Node, memo: &mut Memo, board: &Board) -> Result<(), PortId>
+fn start_parallel<P: Past>(node: &Node, memo: &mut Memo, board: &Recorded<P>) -> Result<(), PortId>
     requires ports { HasPorts (length board.now) node.now }
     requires there { 1 < length node.now.ports }
     ensures starts { let success = source_number board.now (port_at node.now 0) in
@@ -237,11 +237,11 @@ fn start_pace(rate: Option<u32>, old: Status, memo: &mut Memo, now: u64) -> Resu
 /// Makes a memo the one with which a visit of its node starts, which had the status `old`. The error is the first port
 /// that has no number of its range, and then the memo stays. `now` is in milliseconds.
 #[inline(always)]
-fn start_of(
+fn start_of<P: Past>(
     node: &Node,
     old: Status,
     memo: &mut Memo,
-    board: &Board,
+    board: &Recorded<P>,
     now: u64,
 ) -> Result<(), PortId>
     requires { HasPorts (length board.now) node.now }
@@ -297,12 +297,12 @@ fn or_bad_port<A>(uid: u32, read: Result<A, PortId>) -> Result<A, NodeFault>
 /// Makes a memo the one with which a visit of the node with this uid starts, which had the status `old`. The error is
 /// the fault of its first port that has no number of its range, and then the memo stays. `now` is in milliseconds.
 #[inline(always)]
-pub fn start_memo(
+pub fn start_memo<P: Past>(
     node: &Node,
     uid: u32,
     old: Status,
     memo: &mut Memo,
-    board: &Board,
+    board: &Recorded<P>,
     now: u64,
 ) -> Result<(), NodeFault>
     requires { HasPorts (length board.now) node.now }
@@ -340,7 +340,7 @@ fn skip_picked(skip: Option<bool>) -> Result<u32, PortId>
 /// The place of the child that a Switch with these ports selects. It is not inlined, since few
 /// nodes are a Switch.
 #[inline(never)]
-fn selected(ports: &[Source], board: &Board) -> u32
+fn selected<P: Past>(ports: &[Source], board: &Recorded<P>) -> u32
     requires known { All (IsSourceOf (length board.now)) ports.now }
     requires few { length ports.now < 2 ^ 32 }
     ensures { result ≡ case_selected board.now ports.now }
@@ -357,7 +357,7 @@ fn selected(ports: &[Source], board: &Board) -> u32
 
 /// What is picked for a visit of a node. The error is its port that has no truth.
 #[inline(always)]
-fn pick(node: &Node, memo: Memo, board: &Board) -> Result<u32, PortId>
+fn pick<P: Past>(node: &Node, memo: Memo, board: &Recorded<P>) -> Result<u32, PortId>
     requires { HasPorts (length board.now) node.now }
     ensures { (term : Term-F Meaning) (view : View) (whole uid : ℕ) (s : State) → IsNode view (written term) whole node.now →
         result ≡ picked term.kind (site_of term view uid) memo (record s { board = board.now }) }
@@ -375,7 +375,12 @@ fn pick(node: &Node, memo: Memo, board: &Board) -> Result<u32, PortId>
 /// What is picked for a visit of the node with this uid: for a Switch the place of the selected
 /// child, and for a RunOnce with a mark 1 where it skips. The error is the fault of its port.
 #[inline(always)]
-pub fn picked(node: &Node, uid: u32, memo: Memo, board: &Board) -> Result<u32, NodeFault>
+pub fn picked<P: Past>(
+    node: &Node,
+    uid: u32,
+    memo: Memo,
+    board: &Recorded<P>,
+) -> Result<u32, NodeFault>
     requires { HasPorts (length board.now) node.now }
     ensures { (term : Term-F Meaning) (view : View) (whole : ℕ) (s : State) → IsNode view (written term) whole node.now →
         result ≡ or_bad_port uid (picked term.kind (site_of term view uid) memo (record s { board = board.now })) }

@@ -20,7 +20,7 @@ use script_code::{Code, exec, exec_int};
 use spec_run::{Answer, Cause, NodeFault};
 use spec_script::{ExecFault, Value};
 use std::alloc::Global;
-use tree_board::Board;
+use tree_board::{Past, Recorded};
 
 /// The fault of a script as a cause.
 fn cause_of(fault: ExecFault) -> Cause
@@ -40,11 +40,11 @@ fn cause_of(fault: ExecFault) -> Cause
 /// script, as one of its node, and what it wrote before stays. Want of memory comes only where
 /// the run meets a text.
 #[inline(never)]
-pub fn run_script(
+pub fn run_script<P: Past>(
     alloc: Global,
     code: &Code,
     uid: u32,
-    board: &mut Board,
+    board: &mut Recorded<P>,
 ) -> Result<Value, Stop<NodeFault>>
     requires { needed code.now ≤ length board.old }
     ensures settles { (term : Term-F Meaning) (view : View) (script : Script) (s : State) → IsCodeOf view script code.now →
@@ -67,7 +67,12 @@ pub fn run_script(
 /// scripts give a number at once and do not come here. The error is a fault of the script, or want
 /// of memory.
 #[inline(never)]
-fn run_whole(alloc: Global, code: &Code, uid: u32, board: &mut Board) -> Result<(), Stop<NodeFault>>
+fn run_whole<P: Past>(
+    alloc: Global,
+    code: &Code,
+    uid: u32,
+    board: &mut Recorded<P>,
+) -> Result<(), Stop<NodeFault>>
     requires { needed code.now ≤ length board.old }
     ensures settles { (term : Term-F Meaning) (view : View) (script : Script) (s : State) → IsCodeOf view script code.now →
         Settles result (on_board board.new s) (script_if_there (site_of term view uid) (Some script) (on_board board.old s)) }
@@ -82,11 +87,11 @@ fn run_whole(alloc: Global, code: &Code, uid: u32, board: &mut Board) -> Result<
 /// Runs a script of the node with this uid for what it writes alone. The error is a fault of the
 /// script, or want of memory.
 #[inline(always)]
-pub fn run_for_writes(
+pub fn run_for_writes<P: Past>(
     alloc: Global,
     code: &Code,
     uid: u32,
-    board: &mut Board,
+    board: &mut Recorded<P>,
 ) -> Result<(), Stop<NodeFault>>
     requires { needed code.now ≤ length board.old }
     ensures settles { (term : Term-F Meaning) (view : View) (script : Script) (s : State) → IsCodeOf view script code.now →
@@ -104,11 +109,11 @@ pub fn run_for_writes(
 /// Runs a script of the node with this uid, where there is one. The error is a fault of the script,
 /// or want of memory.
 #[inline(always)]
-pub fn script_if_there(
+pub fn script_if_there<P: Past>(
     alloc: Global,
     code: &Option<Code>,
     uid: u32,
-    board: &mut Board,
+    board: &mut Recorded<P>,
 ) -> Result<(), Stop<NodeFault>>
     requires { NeedsAtMost (length board.old) code.now }
     ensures settles { (term : Term-F Meaning) (view : View) (script : Option Script) (s : State) → IsCompiled view script code.now →
@@ -143,11 +148,11 @@ fn truth(value: &Value, uid: u32) -> Result<bool, Stop<NodeFault>>
 /// text is a fault. It is not inlined, since most scripts give a number at once and do not come
 /// here. The error is a fault of the script, or want of memory.
 #[inline(never)]
-fn whole_holds(
+fn whole_holds<P: Past>(
     alloc: Global,
     code: &Code,
     uid: u32,
-    board: &mut Board,
+    board: &mut Recorded<P>,
 ) -> Result<bool, Stop<NodeFault>>
     requires { needed code.now ≤ length board.old }
     ensures settles { (term : Term-F Meaning) (view : View) (script : Script) (s : State) → IsCodeOf view script code.now →
@@ -163,11 +168,11 @@ fn whole_holds(
 /// Runs a script of the node with this uid as a condition: a number other than 0 is true, and a
 /// text is a fault. The error is a fault of the script, or want of memory.
 #[inline(always)]
-pub fn script_holds(
+pub fn script_holds<P: Past>(
     alloc: Global,
     code: &Code,
     uid: u32,
-    board: &mut Board,
+    board: &mut Recorded<P>,
 ) -> Result<bool, Stop<NodeFault>>
     requires { needed code.now ≤ length board.old }
     ensures settles { (term : Term-F Meaning) (view : View) (script : Script) (s : State) → IsCodeOf view script code.now →
@@ -185,12 +190,12 @@ pub fn script_holds(
 /// Tries a guard of the node with this uid: whether it is there, and is true or false as asked. The
 /// error is a fault of the guard, or want of memory.
 #[inline(always)]
-fn is_answered(
+fn is_answered<P: Past>(
     alloc: Global,
     code: &Option<Code>,
     truth: bool,
     uid: u32,
-    board: &mut Board,
+    board: &mut Recorded<P>,
 ) -> Result<bool, Stop<NodeFault>>
     requires { NeedsAtMost (length board.old) code.now }
     ensures tries { (term : Term-F Meaning) (view : View) (script : Option Script) (s : State) (answer : Answer) →
@@ -209,11 +214,11 @@ fn is_answered(
 /// Tries the guards of the node with this uid, which is not RUNNING, one after the other. It is not
 /// inlined, since most nodes have none. The error is a fault of a guard, or want of memory.
 #[inline(never)]
-fn try_each(
+fn try_each<P: Past>(
     alloc: Global,
     guards: &ReadyGuards,
     uid: u32,
-    board: &mut Board,
+    board: &mut Recorded<P>,
 ) -> Result<Option<Answer>, Stop<NodeFault>>
     requires { GuardsNeedAtMost (length board.old) guards.now }
     ensures settles { (term : Term-F Meaning) (view : View) (s : State) → AreCompiled view term.guards guards.now →
@@ -240,11 +245,11 @@ fn try_each(
 /// guards, so that only there the stack has room for their results. The error is a fault of a
 /// guard, or want of memory.
 #[inline(always)]
-fn try_guards(
+fn try_guards<P: Past>(
     alloc: Global,
     guards: &ReadyGuards,
     uid: u32,
-    board: &mut Board,
+    board: &mut Recorded<P>,
 ) -> Result<Option<Answer>, Stop<NodeFault>>
     requires { GuardsNeedAtMost (length board.old) guards.now }
     ensures settles { (term : Term-F Meaning) (view : View) (s : State) → AreCompiled view term.guards guards.now →
@@ -259,11 +264,11 @@ fn try_guards(
 /// `_failureIf`, `_successIf`, `_skipIf` and `_while` that answers; none where none does. Those
 /// after it do not run. The error is a fault of a guard, or want of memory.
 #[inline(always)]
-pub fn guards_answer(
+pub fn guards_answer<P: Past>(
     alloc: Global,
     guards: &ReadyGuards,
     uid: u32,
-    board: &mut Board,
+    board: &mut Recorded<P>,
 ) -> Result<Option<Answer>, Stop<NodeFault>>
     requires { GuardsNeedAtMost (length board.old) guards.now }
     ensures settles { (term : Term-F Meaning) (view : View) (s : State) → AreCompiled view term.guards guards.now →
@@ -280,11 +285,11 @@ pub fn guards_answer(
 
 /// Whether the node with this uid, which is RUNNING, goes on: it does unless its `_while` is false.
 /// The error is a fault of that guard, or want of memory.
-pub fn goes_on(
+pub fn goes_on<P: Past>(
     alloc: Global,
     guards: &ReadyGuards,
     uid: u32,
-    board: &mut Board,
+    board: &mut Recorded<P>,
 ) -> Result<bool, Stop<NodeFault>>
     requires { NeedsAtMost (length board.old) guards.now.while_true }
     ensures settles { (term : Term-F Meaning) (view : View) (s : State) → IsCompiled view term.guards.while_true guards.now.while_true →
@@ -301,12 +306,12 @@ pub fn goes_on(
 /// Runs two scripts of the node with this uid in order, each where there is one. It is not inlined,
 /// since most nodes have none. The error is a fault of a script, or want of memory.
 #[inline(never)]
-fn both_if_there(
+fn both_if_there<P: Past>(
     alloc: Global,
     first: &Option<Code>,
     second: &Option<Code>,
     uid: u32,
-    board: &mut Board,
+    board: &mut Recorded<P>,
 ) -> Result<(), Stop<NodeFault>>
     requires first { NeedsAtMost (length board.old) first.now }
     requires second { NeedsAtMost (length board.old) second.now }
@@ -325,12 +330,12 @@ fn both_if_there(
 /// scripts, so that only there the stack has room for their results. The error is a fault of a
 /// script, or want of memory.
 #[inline(always)]
-fn run_posts(
+fn run_posts<P: Past>(
     alloc: Global,
     guards: &ReadyGuards,
     uid: u32,
     answer: Answer,
-    board: &mut Board,
+    board: &mut Recorded<P>,
 ) -> Result<(), Stop<NodeFault>>
     requires { GuardsNeedAtMost (length board.old) guards.now }
     ensures settles { (term : Term-F Meaning) (view : View) (s : State) → AreCompiled view term.guards guards.now →
@@ -349,12 +354,12 @@ fn run_posts(
 /// `_onFailure` after FAILURE, and then `_post` after either. The error is a fault of a script, or
 /// want of memory.
 #[inline(always)]
-pub fn posts(
+pub fn posts<P: Past>(
     alloc: Global,
     guards: &ReadyGuards,
     uid: u32,
     answer: Answer,
-    board: &mut Board,
+    board: &mut Recorded<P>,
 ) -> Result<(), Stop<NodeFault>>
     requires { GuardsNeedAtMost (length board.old) guards.now }
     ensures settles { (term : Term-F Meaning) (view : View) (s : State) → AreCompiled view term.guards guards.now →

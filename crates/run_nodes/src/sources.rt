@@ -10,10 +10,10 @@ use base_tables::{int_rate, text_rate};
 use itoa::Buffer;
 use run_arena::Source;
 use spec_script::{Cells, Seen, Value};
-use tree_board::Board;
+use tree_board::{Past, Recorded};
 
 /// Lends the value that a port is given; none where it has none.
-pub fn value_of<'a>(source: &'a Source, board: &'a Board) -> Option<&'a Value>
+pub fn value_of<'a, P: Past>(source: &'a Source, board: &'a Recorded<P>) -> Option<&'a Value>
     requires { IsSourceOf (length board.now) source.now }
     ensures { option_copied result ≡ source_value board.now source.now }
 {
@@ -25,7 +25,7 @@ pub fn value_of<'a>(source: &'a Source, board: &'a Board) -> Option<&'a Value>
 }
 
 /// The number that a port is given; none where it is given none.
-pub fn number_of(source: &Source, board: &Board) -> Option<i64>
+pub fn number_of<P: Past>(source: &Source, board: &Recorded<P>) -> Option<i64>
     requires { IsSourceOf (length board.now) source.now }
     ensures { result ≡ source_number board.now source.now }
 {
@@ -36,7 +36,7 @@ pub fn number_of(source: &Source, board: &Board) -> Option<i64>
 }
 
 /// What a driver sees of the value that a port is given.
-pub fn seen_of(source: &Source, board: &Board) -> Seen
+pub fn seen_of<P: Past>(source: &Source, board: &Recorded<P>) -> Seen
     requires { IsSourceOf (length board.now) source.now }
     ensures { result ≡ sight (source_value board.now source.now) }
 {
@@ -49,7 +49,7 @@ pub fn seen_of(source: &Source, board: &Board) -> Seen
 
 /// The truth that a port is given: of a literal text whether it is `true`, of a number whether it
 /// is not 0; none else.
-pub fn truth_of(source: &Source, board: &Board) -> Option<bool>
+pub fn truth_of<P: Past>(source: &Source, board: &Recorded<P>) -> Option<bool>
     requires { IsSourceOf (length board.now) source.now }
     ensures { result ≡ source_truth board.now source.now }
 {
@@ -60,7 +60,7 @@ pub fn truth_of(source: &Source, board: &Board) -> Option<bool>
 }
 
 /// The rate that a port is given, in thousandths of a hertz: a literal's, or so many hertz of a number; none else.
-pub fn rate_of(source: &Source, board: &Board) -> Option<u32>
+pub fn rate_of<P: Past>(source: &Source, board: &Recorded<P>) -> Option<u32>
     requires { IsSourceOf (length board.now) source.now }
     ensures { result ≡ source_rate board.now source.now }
 {
@@ -71,7 +71,7 @@ pub fn rate_of(source: &Source, board: &Board) -> Option<u32>
 }
 
 /// Whether the text of the value that a port is given, a number in decimal, is this one.
-fn has_text(source: &Source, board: &Board, text: &[u8]) -> bool
+fn has_text<P: Past>(source: &Source, board: &Recorded<P>, text: &[u8]) -> bool
     requires { IsSourceOf (length board.now) source.now }
     ensures { result ≡ is_case (source_text board.now source.now) text.now }
 {
@@ -83,7 +83,7 @@ fn has_text(source: &Source, board: &Board, text: &[u8]) -> bool
 }
 
 /// The place of the first of these cases that has this text, and their number where none has it.
-pub fn case_with(cases: &[Source], board: &Board, text: &[u8]) -> u32
+pub fn case_with<P: Past>(cases: &[Source], board: &Recorded<P>, text: &[u8]) -> u32
     requires known { All (IsSourceOf (length board.now)) cases.now }
     requires few { length cases.now < 2 ^ 32 }
     ensures { result ≡ first_case board.now cases.now 0 text.now }

@@ -638,7 +638,7 @@ start_stops nodes moment term view uid e s s1 n0 n1 stays beside k = record { en
 
 -- ---- On a later stage
 
-module _ {D : Type 0} (states : D → List DriverState) {old new : Stage D} (same : IsSame old new) (uid : ℕ) where
+module _ {D P : Type 0} (states : D → List DriverState) {old new : Stage D P} (same : IsSame old new) (uid : ℕ) where
   -- the rule of a node can still be applied
   pub follow_later : (term : Term) (view : View) → CanFollow old.nodes.now old.moment term view uid (scene_on states new) → CanFollowOn states new uid term view
   follow_later term view follow = later same (λ nodes moment. CanFollow nodes moment term view uid (scene_on states new)) follow

@@ -29,7 +29,7 @@ use Rattle.run_tick.specs.declared.progress.Reached.{Reached}
 use Rattle.run_tick.specs.Machine.{Step, Turn}
 use Rattle.run_tick.specs.Turns.{CanVisit, Goes, GoesOnBy, GoingOn, Reaches, turned, visit_in}
 
-module _ {D : Type 0} {old new : Stage D} (same : IsSame old new) where
+module _ {D P : Type 0} {old new : Stage D P} (same : IsSame old new) where
   -- a visit can still begin
   pub can_later : {term : Term} {view : View} {uid : ℕ} {s : Scene} → CanVisit old.nodes.now old.moment term view uid s → CanVisit new.nodes.now new.moment term view uid s
   can_later {term} {view} {uid} {s} k = later same (λ (ns : List Node) (m : ℕ). CanVisit ns m term view uid s) k
@@ -46,7 +46,7 @@ module _ {D : Type 0} {old new : Stage D} (same : IsSame old new) where
 
 -- ---- What calls say, by these nodes and at this time
 
-module _ {D : Type 0} (states : D → List DriverState) (s s1 : Stage D) where
+module _ {D P : Type 0} (states : D → List DriverState) (s s1 : Stage D P) where
   -- of a node that is entered
   abbrev pub EntersBy : ℕ → Result Entered (Stop NodeFault) → List Node → ℕ → Type 0
   EntersBy uid r nodes moment =
@@ -79,7 +79,7 @@ module _ {D : Type 0} (states : D → List DriverState) (s s1 : Stage D) where
       (ended (site_at view uid term) (kept_at s.kept.now uid).status given (children_in term uid s.kept.now) (state_in nodes (scene_on states s) moment))
 
 -- of a node that goes on at once, and changes nothing but its frame
-abbrev pub GoesNextBy : {D : Type 0} → (D → List DriverState) → Stage D → Heard → Next → List Frame → List Frame → List Node → ℕ → Type 0
+abbrev pub GoesNextBy : {D P : Type 0} → (D → List DriverState) → Stage D P → Heard → Next → List Frame → List Frame → List Node → ℕ → Type 0
 GoesNextBy states s heard nx stack stack1 nodes moment =
     (root : Term) (start : Scene) (told : List Note) (whole : Done Answer Memory) → GoingOn nodes moment root 1 (next.GoOn heard) stack start (scene_on states s) told s.notes.now.list whole →
     GoingOn nodes moment root 1 nx stack1 start (scene_on states s) told s.notes.now.list whole

@@ -83,7 +83,7 @@ totals_most nodes moment memory (Err stop.NoMemory) s s1 n0 n1 d work most m =
     omega (arith, most, after, after_most nodes m.made s.drivers, all, begun_both m.made m.unmade)
 
 -- of a visit on a stage, by the work of the tree
-pub spent_on : {D : Type 0} (states : D → List DriverState) (old new : Stage D) (r : Result Answer (Stop NodeFault)) (term : Term) (view : View) → CanVisitOn states old 1 term view → AllByRecursion NodeRuns (nodes_of term) →
+pub spent_on : {D P : Type 0} (states : D → List DriverState) (old new : Stage D P) (r : Result Answer (Stop NodeFault)) (term : Term) (view : View) → CanVisitOn states old 1 term view → AllByRecursion NodeRuns (nodes_of term) →
     MeetsOn states (memory_of term 1) r old new (visit_on states old 1 term view) → begun_by (states new.drivers.now) ≤ begun_by (states old.drivers.now) + work_of term
 spent_on states old new r term view can fit m =
     totals_most old.nodes.now old.moment (memory_of term 1) r (scene_on states old) (scene_on states new) old.notes.now.list new.notes.now.list (visit_on states old 1 term view) (work_of term)

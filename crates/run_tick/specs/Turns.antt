@@ -349,50 +349,50 @@ reached_work nodes (reached.End a) stack = 0
 -- ---- On a stage
 
 -- the term that stands there from this uid on can be visited
-abbrev pub CanVisitOn : {D : Type 0} → (D → List DriverState) → Stage D → ℕ → Term → View → Type 0
+abbrev pub CanVisitOn : {D P : Type 0} → (D → List DriverState) → Stage D P → ℕ → Term → View → Type 0
 CanVisitOn states s uid term view = CanVisit s.nodes.now s.moment term view uid (scene_on states s)
 
 -- its rule can be applied
-abbrev pub CanFollowOn : {D : Type 0} → (D → List DriverState) → Stage D → ℕ → Term → View → Type 0
+abbrev pub CanFollowOn : {D P : Type 0} → (D → List DriverState) → Stage D P → ℕ → Term → View → Type 0
 CanFollowOn states s uid term view = CanFollow s.nodes.now s.moment term view uid (scene_on states s)
 
 -- its visit
-abbrev pub visit_on : {D : Type 0} → (D → List DriverState) → Stage D → ℕ → Term → View → Done Answer Memory
+abbrev pub visit_on : {D P : Type 0} → (D → List DriverState) → Stage D P → ℕ → Term → View → Done Answer Memory
 visit_on states s uid term view = visit_in s.nodes.now s.moment term view uid (scene_on states s)
 
 -- its visit, from its start on
-abbrev pub started_on : {D : Type 0} → (D → List DriverState) → Stage D → ℕ → Term → View → Done Answer Memory
+abbrev pub started_on : {D P : Type 0} → (D → List DriverState) → Stage D P → ℕ → Term → View → Done Answer Memory
 started_on states s uid term view = started_in s.nodes.now s.moment term view uid (scene_on states s)
 
 -- On the way from one stage to the other a turn of its visit was made, or stopped.
-abbrev pub TakesTurn : {D : Type 0} → (D → List DriverState) → Stage D → Stage D → ℕ → Term → View → Result Turn (Stop NodeFault) → Done Answer Memory → Type 0
+abbrev pub TakesTurn : {D P : Type 0} → (D → List DriverState) → Stage D P → Stage D P → ℕ → Term → View → Result Turn (Stop NodeFault) → Done Answer Memory → Type 0
 TakesTurn states old new uid term view result whole =
     Goes old.nodes.now old.moment term view uid result (scene_on states old) (scene_on states new) old.notes.now.list new.notes.now.list whole
 
 -- On the way from one stage to the other its node has started, or its start stopped.
-abbrev pub StartsOn : {D : Type 0} → (D → List DriverState) → Stage D → Stage D → ℕ → Term → View → Result (Unit {0}) (Stop NodeFault) → Type 0
+abbrev pub StartsOn : {D P : Type 0} → (D → List DriverState) → Stage D P → Stage D P → ℕ → Term → View → Result (Unit {0}) (Stop NodeFault) → Type 0
 StartsOn states old new uid term view result =
     Starts old.nodes.now old.moment term view uid result (scene_on states old) (scene_on states new) old.notes.now.list new.notes.now.list
 
 -- Where its node was entered on the way from one stage to the other, less work is left than its whole visit has.
-abbrev pub LeavesLess : {D : Type 0} → ℕ → Stage D → Stage D → Result Entered (Stop NodeFault) → Type 0
+abbrev pub LeavesLess : {D P : Type 0} → ℕ → Stage D P → Stage D P → Result Entered (Stop NodeFault) → Type 0
 LeavesLess uid old new result =
     IfOk result (λ entered. turn_work old.nodes.now (turn_after uid new.kept.now entered) < turn_work old.nodes.now (turn.Enter uid))
 
 -- its node can make its next move, in the middle of its visit
-abbrev pub CanMoveOn : {D : Type 0} → (D → List DriverState) → Stage D → ℕ → Term → View → Type 0
+abbrev pub CanMoveOn : {D P : Type 0} → (D → List DriverState) → Stage D P → ℕ → Term → View → Type 0
 CanMoveOn states s uid term view = CanGoOn s.nodes.now s.moment term view uid (scene_on states s)
 
 -- its node goes on with what it hears, and this is still to come
-abbrev pub StepsOn : {D : Type 0} → (D → List DriverState) → Stage D → Term → View → Step → Done Answer Memory → Type 0
+abbrev pub StepsOn : {D P : Type 0} → (D → List DriverState) → Stage D P → Term → View → Step → Done Answer Memory → Type 0
 StepsOn states s term view step next = GoesOnBy s.nodes.now s.moment term view step.uid step (scene_on states s) next
 
 -- The visit of a root that began in this scene, after these notes, came to what comes next and this stack of all frames.
-abbrev pub CameOn : {D : Type 0} → (D → List DriverState) → Stage D → Term → Next → List Frame → Scene → List Note → Done Answer Memory → Type 0
+abbrev pub CameOn : {D P : Type 0} → (D → List DriverState) → Stage D P → Term → Next → List Frame → Scene → List Note → Done Answer Memory → Type 0
 CameOn states s root next stack start told whole =
     GoingOn s.nodes.now s.moment root 1 next stack start (scene_on states s) told s.notes.now.list whole
 
 -- It came from one stage to the other and on to a child, or it ended.
-abbrev pub ReachesOn : {D : Type 0} → (D → List DriverState) → Stage D → Stage D → Term → Result Reached (Stop NodeFault) → List Frame → Scene → List Note → Done Answer Memory → Type 0
+abbrev pub ReachesOn : {D P : Type 0} → (D → List DriverState) → Stage D P → Stage D P → Term → Result Reached (Stop NodeFault) → List Frame → Scene → List Note → Done Answer Memory → Type 0
 ReachesOn states old new root result stack start told whole =
     Reaches old.nodes.now old.moment root 1 result stack start (scene_on states old) (scene_on states new) told new.notes.now.list whole

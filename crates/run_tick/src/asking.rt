@@ -18,6 +18,7 @@ use run_driver::Drivers;
 use run_nodes::{end_visit, reset_children, visit_alone};
 use spec_run::{Answer, Heard, Memo, NodeFault, Note, Span, Status};
 use spec_tree::Kind;
+use tree_board::Past;
 
 /// Whether none of these guards comes before a visit, whether it begins or goes on.
 #[inline(always)]
@@ -30,7 +31,7 @@ fn come_after(guards: &ReadyGuards) -> bool
 /// Whether the node with this uid asks first: it is a ReactiveFallback whose first child is a leaf,
 /// before whose visit no guard comes. Trees that are grown for goals are made of such nodes.
 #[inline(always)]
-pub(crate) fn asks_first<D: Drivers>(stage: &Stage<D>, uid: u32) -> bool
+pub(crate) fn asks_first<D: Drivers, P: Past>(stage: &Stage<D, P>, uid: u32) -> bool
     requires can { (term : Term) × (view : View) × CanVisitOn D.states stage.now uid term view }
     ensures asks { IsTrue result → AsksFirst stage.now.nodes.now uid }
     ensures all { AsksFirst stage.now.nodes.now uid → IsTrue result }
@@ -48,7 +49,10 @@ pub(crate) fn asks_first<D: Drivers>(stage: &Stage<D>, uid: u32) -> bool
 /// Starts the node with this uid, which asks first: it waits for its first child. The error is want
 /// of memory.
 #[inline(always)]
-fn start_asking<D: Drivers>(stage: &mut Stage<D>, uid: u32) -> Result<(), Stop<NodeFault>>
+fn start_asking<D: Drivers, P: Past>(
+    stage: &mut Stage<D, P>,
+    uid: u32,
+) -> Result<(), Stop<NodeFault>>
     requires can { (term : Term) × (view : View) × CanVisitOn D.states stage.old uid term view }
     requires rests { is_running (kept_at stage.old.kept.now uid).status ≡ false }
     requires asks { AsksFirst stage.old.nodes.now uid }
@@ -72,7 +76,10 @@ fn start_asking<D: Drivers>(stage: &mut Stage<D>, uid: u32) -> Result<(), Stop<N
 /// Visits the leaf with this uid, before whose visit no guard comes. The error is its fault, or want
 /// of memory.
 #[inline(always)]
-fn visit_leaf<D: Drivers>(stage: &mut Stage<D>, uid: u32) -> Result<Answer, Stop<NodeFault>>
+fn visit_leaf<D: Drivers, P: Past>(
+    stage: &mut Stage<D, P>,
+    uid: u32,
+) -> Result<Answer, Stop<NodeFault>>
     requires can { (term : Term) × (view : View) × CanVisitOn D.states stage.old uid term view }
     requires leaf { (node_at stage.old.nodes.now uid).kind ≡ Leaf }
     requires unguarded { (node_at stage.old.nodes.now uid).guards.before ≡ false }
@@ -87,7 +94,7 @@ fn visit_leaf<D: Drivers>(stage: &mut Stage<D>, uid: u32) -> Result<Answer, Stop
 /// Ends the visit of the node with this uid, which asked first, after the answer SUCCESS: all its
 /// children are reset, and it answers so itself. The error is a fault of a script, or want of memory.
 #[inline(always)]
-fn settle<D: Drivers>(stage: &mut Stage<D>, uid: u32) -> Result<Answer, Stop<NodeFault>>
+fn settle<D: Drivers, P: Past>(stage: &mut Stage<D, P>, uid: u32) -> Result<Answer, Stop<NodeFault>>
     requires can { (term : Term) × (view : View) × (rest : Done AnswerGiven Memory) ×
         StepsOn D.states stage.old term view (hears_first uid Answer.Success) rest }
     requires kind { (node_at stage.old.nodes.now uid).kind ≡ ReactiveFallback }
@@ -106,7 +113,10 @@ fn settle<D: Drivers>(stage: &mut Stage<D>, uid: u32) -> Result<Answer, Stop<Nod
 /// of memory. It says what `start` and `begin_rule` say of such a node, and spares its frame and most
 /// of its turns.
 #[inline(always)]
-pub(crate) fn ask<D: Drivers>(stage: &mut Stage<D>, uid: u32) -> Result<Entered, Stop<NodeFault>>
+pub(crate) fn ask<D: Drivers, P: Past>(
+    stage: &mut Stage<D, P>,
+    uid: u32,
+) -> Result<Entered, Stop<NodeFault>>
     requires can { (term : Term) × (view : View) × CanVisitOn D.states stage.old uid term view }
     requires rests { is_running (kept_at stage.old.kept.now uid).status ≡ false }
     requires asks { AsksFirst stage.old.nodes.now uid }

@@ -21,6 +21,7 @@ use run_nodes::{
 };
 use spec_run::{Answer, Heard, Memo, NodeFault, Note, Status};
 use spec_tree::Kind;
+use tree_board::Past;
 
 /// Whether a node of this kind with this memo starts: one with children does, except a RunOnce with
 /// a mark.
@@ -37,7 +38,10 @@ fn starts(kind: Kind, memo: Memo) -> bool
 /// Begins the rule of the node with this uid, which has children. The answer says what is picked
 /// for the visit; the error is the fault of the port that decides it.
 #[inline(always)]
-fn begin_rule<D: Drivers>(stage: &Stage<D>, uid: u32) -> Result<Entered, Stop<NodeFault>>
+fn begin_rule<D: Drivers, P: Past>(
+    stage: &Stage<D, P>,
+    uid: u32,
+) -> Result<Entered, Stop<NodeFault>>
     requires can { (term : Term) × (view : View) × CanFollowOn D.states stage.now uid term view }
     requires ruled { has_rule (node_at stage.now.nodes.now uid).kind ≡ true }
     ensures goes { let s = stage.now in (term : Term) (view : View) → CanFollowOn D.states s uid term view →
@@ -55,7 +59,10 @@ fn begin_rule<D: Drivers>(stage: &Stage<D>, uid: u32) -> Result<Entered, Stop<No
 /// children goes on by moves, and any other has its whole visit. The error is a fault, or want of
 /// memory (out of memory).
 #[inline(always)]
-fn follow_rule<D: Drivers>(stage: &mut Stage<D>, uid: u32) -> Result<Entered, Stop<NodeFault>>
+fn follow_rule<D: Drivers, P: Past>(
+    stage: &mut Stage<D, P>,
+    uid: u32,
+) -> Result<Entered, Stop<NodeFault>>
     requires can { (term : Term) × (view : View) × CanFollowOn D.states stage.old uid term view }
     ensures goes { (term : Term) (view : View) → CanFollowOn D.states stage.old uid term view →
         TakesTurn D.states stage.old stage.new uid term view
@@ -75,7 +82,7 @@ fn follow_rule<D: Drivers>(stage: &mut Stage<D>, uid: u32) -> Result<Entered, St
 /// Starts the node with this uid, which is not RUNNING: it becomes RUNNING, with a note, and gets a
 /// new memo. The error is the fault of a port, or want of memory.
 #[inline(always)]
-fn start<D: Drivers>(stage: &mut Stage<D>, uid: u32) -> Result<(), Stop<NodeFault>>
+fn start<D: Drivers, P: Past>(stage: &mut Stage<D, P>, uid: u32) -> Result<(), Stop<NodeFault>>
     requires can { (term : Term) × (view : View) × CanVisitOn D.states stage.old uid term view }
     requires rests { is_running (kept_at stage.old.kept.now uid).status ≡ false }
     requires starts { starts (node_at stage.old.nodes.now uid).kind (kept_at stage.old.kept.now uid).memo ≡ true }
@@ -110,7 +117,7 @@ fn start<D: Drivers>(stage: &mut Stage<D>, uid: u32) -> Result<(), Stop<NodeFaul
 /// Begins a visit of the node with this uid, which is not RUNNING: its guards answer, or it starts.
 /// The error is a fault, or want of memory.
 #[inline(always)]
-fn begin<D: Drivers>(stage: &mut Stage<D>, uid: u32) -> Result<Entered, Stop<NodeFault>>
+fn begin<D: Drivers, P: Past>(stage: &mut Stage<D, P>, uid: u32) -> Result<Entered, Stop<NodeFault>>
     requires can { (term : Term) × (view : View) × CanVisitOn D.states stage.old uid term view }
     requires rests { is_running (kept_at stage.old.kept.now uid).status ≡ false }
     ensures goes { (term : Term) (view : View) → CanVisitOn D.states stage.old uid term view →
@@ -141,7 +148,10 @@ fn begin<D: Drivers>(stage: &mut Stage<D>, uid: u32) -> Result<Entered, Stop<Nod
 /// Goes on with the node with this uid, which is RUNNING, or halts it where its `_while` is false,
 /// and answers SKIPPED. The error is a fault, or want of memory.
 #[inline(always)]
-fn resume<D: Drivers>(stage: &mut Stage<D>, uid: u32) -> Result<Entered, Stop<NodeFault>>
+fn resume<D: Drivers, P: Past>(
+    stage: &mut Stage<D, P>,
+    uid: u32,
+) -> Result<Entered, Stop<NodeFault>>
     requires can { (term : Term) × (view : View) × CanVisitOn D.states stage.old uid term view }
     requires running { (kept_at stage.old.kept.now uid).status ≡ Running }
     ensures goes { (term : Term) (view : View) → CanVisitOn D.states stage.old uid term view →
@@ -162,7 +172,10 @@ fn resume<D: Drivers>(stage: &mut Stage<D>, uid: u32) -> Result<Entered, Stop<No
 /// Visits the node with this uid, up to its answer or to where it goes on by moves. The error is a
 /// fault, or want of memory.
 #[inline(always)]
-pub(crate) fn enter<D: Drivers>(stage: &mut Stage<D>, uid: u32) -> Result<Entered, Stop<NodeFault>>
+pub(crate) fn enter<D: Drivers, P: Past>(
+    stage: &mut Stage<D, P>,
+    uid: u32,
+) -> Result<Entered, Stop<NodeFault>>
     requires can { (term : Term) × (view : View) × CanVisitOn D.states stage.old uid term view }
     ensures goes { (term : Term) (view : View) → CanVisitOn D.states stage.old uid term view →
         TakesTurn D.states stage.old stage.new uid term view

@@ -20,6 +20,7 @@ use run_driver::Drivers;
 use run_nodes::{end_visit, reset_children};
 use spec_run::{Heard, NodeFault, Span, Status, Then};
 use spec_tree::Kind;
+use tree_board::Past;
 
 /// The uid of the child of a node at this place.
 #[inline(always)]
@@ -43,8 +44,8 @@ fn passes_over(kind: Kind, status: Status) -> bool
 /// Resets the children of a span of the node with this uid, in order. The error is a fault of an
 /// `_onHalted`, or want of memory.
 #[inline(always)]
-fn reset_before<D: Drivers>(
-    stage: &mut Stage<D>,
+fn reset_before<D: Drivers, P: Past>(
+    stage: &mut Stage<D, P>,
     uid: u32,
     span: Span,
 ) -> Result<(), Stop<NodeFault>>
@@ -69,7 +70,11 @@ fn reset_before<D: Drivers>(
 /// do when they begin and after most answers. The frame is then that of the visit of this child, and
 /// else it stays.
 #[inline(always)]
-pub(crate) fn goes_on_at_once<D: Drivers>(stage: &Stage<D>, frame: &mut Frame, heard: Heard) -> bool
+pub(crate) fn goes_on_at_once<D: Drivers, P: Past>(
+    stage: &Stage<D, P>,
+    frame: &mut Frame,
+    heard: Heard,
+) -> bool
     requires can { (term : Term) × (view : View) × (rest : Done AnswerGiven Memory) ×
         StepsOn D.states stage.now term view (step_of frame.old heard) rest }
     ensures goes { IsTrue result → (term : Term) (view : View) (rest : Done AnswerGiven Memory) →
@@ -95,8 +100,8 @@ pub(crate) fn goes_on_at_once<D: Drivers>(stage: &Stage<D>, frame: &mut Frame, h
 /// The node on top of the stack, which has this frame, goes on with what it hears: it makes its
 /// next move, up to its answer or to the visit of a child. The error is a fault, or want of memory.
 #[inline(always)]
-pub(crate) fn go_on<D: Drivers>(
-    stage: &mut Stage<D>,
+pub(crate) fn go_on<D: Drivers, P: Past>(
+    stage: &mut Stage<D, P>,
     frame: &mut Frame,
     heard: Heard,
 ) -> Result<Next, Stop<NodeFault>>

@@ -28,6 +28,7 @@ use base_texts::{NoMemory, Stop};
 use run_arena::{Frame, Stage};
 use run_driver::Drivers;
 use spec_run::{Answer, Heard, Memo, NodeFault};
+use tree_board::Past;
 
 /// The frame of the node with this uid, whose rule goes on with this memo.
 #[inline(always)]
@@ -74,7 +75,11 @@ fn push_frame(stack: &mut Vec<Frame>, frame: Frame) -> Result<(), NoMemory>
 /// The uid of the child that the node on top of the stack goes on to with what it hears, where it
 /// does no more than that. Its frame is then that of the visit of this child, and else it stays.
 #[inline(always)]
-fn next_at_once<D: Drivers>(stage: &Stage<D>, stack: &mut Vec<Frame>, heard: Heard) -> Option<u32>
+fn next_at_once<D: Drivers, P: Past>(
+    stage: &Stage<D, P>,
+    stack: &mut Vec<Frame>,
+    heard: Heard,
+) -> Option<u32>
     requires going { (root : Term) × (start : Scene) × (told : List Note) × (whole : Done AnswerGiven Memory) ×
         CameOn D.states stage.now root (next.GoOn heard) stack.old.items start told whole }
     ensures came { MatchOption result (stack.new.items ≡ stack.old.items) (λ child.
@@ -99,8 +104,8 @@ fn next_at_once<D: Drivers>(stage: &Stage<D>, stack: &mut Vec<Frame>, heard: Hea
 /// child has answered, up to the visit of a child or to the answer of the root. The error is a
 /// fault, or want of memory.
 #[inline(always)]
-fn reach_child<D: Drivers>(
-    stage: &mut Stage<D>,
+fn reach_child<D: Drivers, P: Past>(
+    stage: &mut Stage<D, P>,
     stack: &mut Vec<Frame>,
     first: Heard,
 ) -> Result<Reached, Stop<NodeFault>>
@@ -147,8 +152,8 @@ fn reach_child<D: Drivers>(
 /// leaves, have no frame. It is marked to be inlined, so that the parts of the stage are at hand where it
 /// is called; the toolchain may drop the mark from a function of this length.
 #[inline(always)]
-pub fn tick<D: Drivers>(
-    stage: &mut Stage<D>,
+pub fn tick<D: Drivers, P: Past>(
+    stage: &mut Stage<D, P>,
     frames: &mut Vec<Frame>,
 ) -> Result<Answer, Stop<NodeFault>>
     requires can { (term : Term) × (view : View) × CanVisitOn D.states stage.old 1 term view }

@@ -7,7 +7,8 @@ use base_texts::{Name, NoMemory, Txt};
 use spec_script::Cells;
 use spec_tree::Tree;
 use std::alloc::{AllocError, Global};
-use tree_board::{Board, Slots, board_of, cells, slot, slot_count, slots_of};
+use std::marker::Brand;
+use tree_board::{Board, Past, Recorded, Slots, board_of, cells, slot, slot_count, slots_of};
 
 /// A Sequence of a script over the keys `b`, `c` and `_p`, and of a SubTree that is given `b` twice, a
 /// literal, and all other keys.
@@ -169,25 +170,38 @@ fn boards_begin_with_literals(rt: HostRuntime) -> Result<(), NoMemory> {
     )
 }
 
-/// What a board of six slots holds after a number and a text are put, each in its slot.
-fn put_both(alloc: Global, board: &mut Board) -> Result<String, NoMemory>
-    requires { length board.old ≡ 6 }
+/// What a board of six slots holds in an event after numbers and a text are put; for each slot the first one from it on
+/// that was written, and what it held before; and the board after the event.
+fn put_both<P: Past>(alloc: Global, board: Board) -> Result<String, NoMemory>
+    requires past { board ≡ P.past }
+    requires slots { length board ≡ 6 }
 {
+    let mut board: Recorded<P> = Recorded::of(board);
+    board.put_int(5, 4);
     board.put_int(1, 5);
     board.put_text(4, Txt::of(Vec::from_slice(alloc, b"on")?)?);
+    board.put_int(5, 8);
     let mut told = String::new(alloc);
     for slot in 0..6 {
         told.push_str(format!(in alloc; "{:?} ", board.get(slot))?.as_str())?;
     }
+    for slot in 0..6 {
+        told.push_str(format!(in alloc;
+            "{} {:?} ",
+            board.next_written(slot),
+            board.past(slot)
+        )?.as_str())?;
+    }
+    told.push_str(format!(in alloc; "{:?}", board.close().list())?.as_str())?;
     Ok(told)
 }
 
 /// What the board of a tree holds after these puts; an error where it does not have six slots.
 fn put_told(alloc: Global, tree: &Tree) -> Result<String, NoMemory> {
     let slots = slots_of(alloc, tree)?;
-    let mut board = board_of(alloc, tree, &slots)?;
+    let board = board_of(alloc, tree, &slots)?;
     if slot_count(&slots) == 6 {
-        put_both(alloc, &mut board)
+        put_both::<Brand>(alloc, board)
     } else {
         Err(NoMemory)
     }
@@ -198,16 +212,18 @@ fn put_text(alloc: Global, nodes: &str) -> Result<String, NoMemory> {
     nodes_told(alloc, nodes, put_told)
 }
 
-/// A number and a text are put in two slots, and the others stay.
+/// Numbers and a text are put in three slots, one of them twice, and the others stay.
 #[test]
-fn puts_change_one_slot(rt: HostRuntime) -> Result<(), NoMemory> {
+fn puts_change_one_slot_each(rt: HostRuntime) -> Result<(), NoMemory> {
     compare(
         &rt,
         rt.alloc(),
         put_text,
         &[(
             MIXED,
-            "None Some(Int(5)) None None Some(Text(Txt { bytes: Shared { owner: [111, 110] } })) Some(Int(7)) ",
+            "None Some(Int(5)) None None Some(Text(Txt { bytes: Shared { owner: [111, 110] } })) Some(Int(8)) \
+             1 None 1 None 4 None 4 None 4 None 5 Some(Int(7)) \
+             [None, Some(Int(5)), None, None, Some(Text(Txt { bytes: Shared { owner: [111, 110] } })), Some(Int(8))]",
         )],
     )
 }

@@ -3,6 +3,7 @@ pub mod NameCounts
 pub mod Named
 pub mod Openings
 pub mod Ordered
+pub mod Records
 pub mod Resolved
 pub mod Scoping
 pub mod Searched

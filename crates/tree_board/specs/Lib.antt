@@ -1,4 +1,5 @@
 pub mod Namings
 pub mod Openings
+pub mod Records
 pub mod Scopes
 pub mod Slots

@@ -1,4 +1,4 @@
-ghost use Rattle.std.specs.Prelude.{◌≡◌, ℕ, ◌+◌, length, map, replicate, sum, None, IfOk, OnOk};
+ghost use Rattle.std.specs.Prelude.{◌≡◌, ℕ, ◌+◌, [], length, map, replicate, sum, None, IfOk, OnOk};
 ghost use Rattle.std.specs.List.{flat_map};
 ghost use Rattle.spec_tree.specs.Boards.{Scope, literals_at, opening_board, standing_all, standing_from};
 ghost use Rattle.base_tables.specs.SlotTables.{slot_table};
@@ -8,16 +8,18 @@ ghost use Rattle.tree_board.specs.Openings.{node_literals};
 
 use crate::naming::uid_after;
 use crate::slots::{Slots, own_slot, slot_count};
-use base_texts::{NoMemory, Txt};
-use spec_script::{Cells, Value};
+use base_texts::NoMemory;
+use spec_script::Value;
 use spec_tree::{Kind, Port, PortValue, Term, Tree};
 use std::alloc::Global;
 use std::marker::Model;
 
-/// A blackboard: a value, or none, for each slot. Contracts see the list of them.
+/// A blackboard between events: a value, or none, for each slot. Contracts see the list of them.
 #[derive(Debug, Drop)]
 pub struct Board {
-    entries: Vec<Option<Value>>,
+    pub(crate) entries: Vec<Option<Value>>,
+    /// Places in which an event keeps what slots held that are written. They are empty.
+    pub(crate) before: Vec<Option<Option<Value>>>,
 }
 
 impl Model for Board {
@@ -26,36 +28,29 @@ impl Model for Board {
 
     ghost Value = { List (Option Content) };
 
+    ghost use Rattle.tree_board.specs.Records.{IsEmptyRecord};
+
     ghost view = { λ board. board.entries.items };
+
+    ghost invariant = { λ board. IsEmptyRecord board.entries.items board.before.items };
 }
 
 impl Board {
+    /// A board without slots.
+    pub fn empty(alloc: Global) -> Board
+        ensures { result ≡ [] }
+    {
+        Board {
+            entries: Vec::new(alloc),
+            before: Vec::new(alloc),
+        }
+    }
+
     /// Lends the entries, by slot.
     pub fn list(&self) -> &[Option<Value>]
         ensures { result.now ≡ self.now }
     {
         self.entries.as_slice()
-    }
-}
-
-impl Cells for Board {
-    ghost entries = { λ board. board };
-
-    #[inline(always)]
-    fn get(&self, slot: u32) -> Option<&Value> {
-        self.entries[slot as usize].as_ref()
-    }
-
-    #[inline(always)]
-    fn put_int(&mut self, slot: u32, n: i64) {
-        match &mut self.entries[slot as usize] {
-            Some(Value::Int(held)) => *held = n,
-            entry => *entry = Some(Value::Int(n)),
-        }
-    }
-
-    fn put_text(&mut self, slot: u32, text: Txt) {
-        self.entries[slot as usize] = Some(Value::Text(text));
     }
 }
 
@@ -169,15 +164,15 @@ fn open_tree(
     Ok(())
 }
 
-/// So many entries without values.
-fn empty_entries(alloc: Global, count: u32) -> Result<Vec<Option<Value>>, NoMemory>
-    ensures { IfOk result (λ entries. entries.items ≡ replicate count None) }
+/// So many places with nothing in them.
+fn empty_places<T: Drop>(alloc: Global, count: u32) -> Result<Vec<Option<T>>, NoMemory>
+    ensures { IfOk result (λ places. places.items ≡ replicate count None) }
 {
-    let mut entries = Vec::new(alloc);
+    let mut places = Vec::with_capacity(alloc, count as usize)?;
     for _ in 0..count {
-        entries.push(None)?;
+        places.push(None)?;
     }
-    Ok(entries)
+    Ok(places)
 }
 
 /// The board of a tree before the first event, over its slots: it holds the literals of the SubTree
@@ -188,7 +183,11 @@ pub fn board_of(alloc: Global, tree: &Tree, slots: &Slots) -> Result<Board, NoMe
     ensures board { IfOk result (λ board. board ≡ opening_board tree.now) }
     ensures size { IfOk result (λ board. length board ≡ length slots.now.cells) }
 {
-    let mut entries = empty_entries(alloc, slot_count(slots))?;
+    let count = slot_count(slots);
+    let mut entries = empty_places(alloc, count)?;
     open_tree(alloc, tree, slots, &mut entries)?;
-    Ok(Board { entries })
+    Ok(Board {
+        entries,
+        before: empty_places(alloc, count)?,
+    })
 }

@@ -13,9 +13,9 @@ use Rattle.run_arena.proofs.Called.{marks_same}
 use Rattle.run_nodes.proofs.Standing.{beside_one}
 use Rattle.run_nodes.specs.Halting.Halts.{idle_with}
 
-module _ {D : Type 0} (states : D → List DriverState) where
+module _ {D P : Type 0} (states : D → List DriverState) where
   -- a node has become IDLE
-  pub keeps_idle : (uid : ℕ) (memo : Memo) (a b : Stage D) → IsSame a b → scene_on states b ≡ idle_with (scene_on states a) uid memo → Keeps states uid 1 a b
+  pub keeps_idle : (uid : ℕ) (memo : Memo) (a b : Stage D P) → IsSame a b → scene_on states b ≡ idle_with (scene_on states a) uid memo → Keeps states uid 1 a b
   keeps_idle uid memo a b same e = record {
     same = same;
     beside = beside_one a.kept.now b.kept.now uid _ (λ i. (e i).kept);
@@ -29,7 +29,7 @@ module _ {D : Type 0} (states : D → List DriverState) where
     });
   }
 
-  pub idle_here : (uid : ℕ) (memo : Memo) (a b : Stage D) → uid < length a.kept.now → scene_on states b ≡ idle_with (scene_on states a) uid memo → (kept_at b.kept.now uid).status ≡ Idle
+  pub idle_here : (uid : ℕ) (memo : Memo) (a b : Stage D P) → uid < length a.kept.now → scene_on states b ≡ idle_with (scene_on states a) uid memo → (kept_at b.kept.now uid).status ≡ Idle
   idle_here uid memo a b within e =
       (λ i. (kept_at (e i).kept uid).status)
       ∙ ap (λ (k : Kept). k.status) (get_or-set_same a.kept.now uid (record { status = Idle; memo = memo; held = (kept_at a.kept.now uid).held }) at_rest within)

@@ -53,34 +53,34 @@ reset_if false term view uid m s = done tt m s
 -- ---- On a stage
 
 -- the halt of the term that stands there from this uid on
-abbrev pub halt_on : {D : Type 0} → (D → List DriverState) → Stage D → ℕ → Term → View → Done (Unit {0}) Memory
+abbrev pub halt_on : {D P : Type 0} → (D → List DriverState) → Stage D P → ℕ → Term → View → Done (Unit {0}) Memory
 halt_on states s uid term view = halt (site_at view uid term) (memory_of term uid s.kept.now) (state_on states s)
 
 -- its reset
-abbrev pub reset_on : {D : Type 0} → (D → List DriverState) → Stage D → ℕ → Term → View → Done (Unit {0}) Memory
+abbrev pub reset_on : {D P : Type 0} → (D → List DriverState) → Stage D P → ℕ → Term → View → Done (Unit {0}) Memory
 reset_on states s uid term view = (meaning term).reset view uid (memory_of term uid s.kept.now) (state_on states s)
 
 -- its reset, or nothing
-abbrev pub reset_if_on : {D : Type 0} → (D → List DriverState) → Stage D → Bool → ℕ → Term → View → Done (Unit {0}) Memory
+abbrev pub reset_if_on : {D P : Type 0} → (D → List DriverState) → Stage D P → Bool → ℕ → Term → View → Done (Unit {0}) Memory
 reset_if_on states s wanted uid term view = reset_if wanted term view uid (memory_of term uid s.kept.now) (state_on states s)
 
 -- what comes after the resets of its children
-abbrev pub halted_on : {D : Type 0} → (D → List DriverState) → Stage D → ℕ → Term → View → Done (Unit {0}) Memory
+abbrev pub halted_on : {D P : Type 0} → (D → List DriverState) → Stage D P → ℕ → Term → View → Done (Unit {0}) Memory
 halted_on states s uid term view =
     halted (site_at view uid term) (remembered Idle (cleared (kept_at s.kept.now uid).memo) (children_in term uid s.kept.now)) (state_on states s)
 
 -- its driver is called `halted`, where it has one
-abbrev pub released_on : {D : Type 0} → (D → List DriverState) → Stage D → ℕ → Done (Unit {0}) (Unit {0})
+abbrev pub released_on : {D P : Type 0} → (D → List DriverState) → Stage D P → ℕ → Done (Unit {0}) (Unit {0})
 released_on states s uid = leaf_released (leaf_at s.nodes.now uid) uid (state_on states s)
 
 -- the resets of its children that a span has
-abbrev pub resets_on : {D : Type 0} → (D → List DriverState) → Stage D → ℕ → Span → Term → View → Done (Unit {0}) (List Memory)
+abbrev pub resets_on : {D P : Type 0} → (D → List DriverState) → Stage D P → ℕ → Span → Term → View → Done (Unit {0}) (List Memory)
 resets_on states s uid span term view = resets span (children_of (site_at view uid term)) 0 (children_in term uid s.kept.now) (state_on states s)
 
 -- each RUNNING leaf among the node with this uid and all below it has the mark of a held one
-abbrev pub RunningAreHeldOn : {D : Type 0} → Stage D → ℕ → Type 0
+abbrev pub RunningAreHeldOn : {D P : Type 0} → Stage D P → ℕ → Type 0
 RunningAreHeldOn s uid = RunningAreHeld s.nodes.now s.kept.now uid
 
 -- if the node with this uid is a leaf, it has that mark
-abbrev pub LeafIsHeldOn : {D : Type 0} → Stage D → ℕ → Type 0
+abbrev pub LeafIsHeldOn : {D P : Type 0} → Stage D P → ℕ → Type 0
 LeafIsHeldOn s uid = (leaf : ReadyLeaf) → leaf_at s.nodes.now uid ≡ Some leaf → (kept_at s.kept.now uid).held ≡ true

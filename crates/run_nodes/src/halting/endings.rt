@@ -13,6 +13,7 @@ use base_texts::{NoMemory, Stop};
 use run_arena::{Kept, Stage, keep, node, set_held};
 use run_driver::Drivers;
 use spec_run::{Memo, NodeFault, Note, Status};
+use tree_board::Past;
 
 /// The memo that is left when a node is halted: none, but the mark of a RunOnce stays.
 fn cleared_memo(memo: Memo) -> Memo
@@ -27,7 +28,7 @@ fn cleared_memo(memo: Memo) -> Memo
 /// Halts a leaf: calls its driver `halted`, and adds the note. The place of the note is reserved
 /// before the call. For any other node nothing is done. The error is want of memory, and then there
 /// was no call.
-fn release<D: Drivers>(stage: &mut Stage<D>, uid: u32) -> Result<(), NoMemory>
+fn release<D: Drivers, P: Past>(stage: &mut Stage<D, P>, uid: u32) -> Result<(), NoMemory>
     requires fits { (term : Term) × (view : View) × FitsOn D.states stage.old uid term view }
     requires held { LeafIsHeldOn stage.old uid }
     ensures ok { OnOk result (MeetsOn D.states (λ _. tt) (Ok tt) stage.old stage.new (released_on D.states stage.old uid)) }
@@ -54,7 +55,7 @@ fn release<D: Drivers>(stage: &mut Stage<D>, uid: u32) -> Result<(), NoMemory>
 
 /// Brings a node to rest that was RUNNING: its memo is cleared, and its status becomes IDLE, with a
 /// note. The error is want of memory.
-fn come_to_rest<D: Drivers>(stage: &mut Stage<D>, uid: u32) -> Result<(), NoMemory>
+fn come_to_rest<D: Drivers, P: Past>(stage: &mut Stage<D, P>, uid: u32) -> Result<(), NoMemory>
     requires { uid < length stage.old.kept.now }
     ensures ok { let memo = cleared (kept_at stage.old.kept.now uid).memo in
         OnOk result (scene_on D.states stage.new ≡ idle_with (scene_on D.states stage.old) uid memo) }
@@ -84,7 +85,10 @@ fn come_to_rest<D: Drivers>(stage: &mut Stage<D>, uid: u32) -> Result<(), NoMemo
 
 /// The end of a halt, after the resets of the children. The error is a fault of `_onHalted`, or
 /// want of memory.
-pub(crate) fn end_halt<D: Drivers>(stage: &mut Stage<D>, uid: u32) -> Result<(), Stop<NodeFault>>
+pub(crate) fn end_halt<D: Drivers, P: Past>(
+    stage: &mut Stage<D, P>,
+    uid: u32,
+) -> Result<(), Stop<NodeFault>>
     requires fits { (term : Term) × (view : View) × FitsOn D.states stage.old uid term view }
     requires running { (kept_at stage.old.kept.now uid).status ≡ Running }
     requires held { LeafIsHeldOn stage.old uid }

@@ -16,6 +16,7 @@ use base_texts::{NoMemory, Stop};
 use run_arena::{Stage, node, set_status};
 use run_driver::Drivers;
 use spec_run::{NodeFault, Span, Status};
+use tree_board::Past;
 
 /// Whether a span has the child at this place.
 fn has(span: Span, place: u32) -> bool
@@ -33,7 +34,7 @@ fn has(span: Span, place: u32) -> bool
 /// Makes a node IDLE, with a note where it was not. The error is want of memory, and then nothing
 /// changes.
 #[inline(always)]
-fn become_idle<D: Drivers>(stage: &mut Stage<D>, uid: u32) -> Result<(), NoMemory>
+fn become_idle<D: Drivers, P: Past>(stage: &mut Stage<D, P>, uid: u32) -> Result<(), NoMemory>
     requires { uid < length stage.old.kept.now }
     ensures ok { let memo = (kept_at stage.old.kept.now uid).memo in
         OnOk result (scene_on D.states stage.new ≡ idle_with (scene_on D.states stage.old) uid memo) }
@@ -55,7 +56,7 @@ fn become_idle<D: Drivers>(stage: &mut Stage<D>, uid: u32) -> Result<(), NoMemor
 /// caller quenches.
 #[inline(always)]
 #[cycle(resetting)]
-pub fn reset<D: Drivers>(stage: &mut Stage<D>, uid: u32) -> Result<(), Stop<NodeFault>>
+pub fn reset<D: Drivers, P: Past>(stage: &mut Stage<D, P>, uid: u32) -> Result<(), Stop<NodeFault>>
     requires fits { (term : Term) × (view : View) × FitsOn D.states stage.old uid term view }
     requires held { RunningAreHeldOn stage.old uid }
     ensures meets { (term : Term) (view : View) → FitsOn D.states stage.old uid term view →
@@ -83,7 +84,7 @@ pub fn reset<D: Drivers>(stage: &mut Stage<D>, uid: u32) -> Result<(), Stop<Node
 /// that room for the answer of a halt is cleared only where there is one.
 #[inline(always)]
 #[cycle(resetting)]
-fn halt_here<D: Drivers>(stage: &mut Stage<D>, uid: u32) -> Result<(), Stop<NodeFault>>
+fn halt_here<D: Drivers, P: Past>(stage: &mut Stage<D, P>, uid: u32) -> Result<(), Stop<NodeFault>>
     requires fits { (term : Term) × (view : View) × FitsOn D.states stage.old uid term view }
     requires running { (kept_at stage.old.kept.now uid).status ≡ IsRunning }
     requires held { RunningAreHeldOn stage.old uid }
@@ -103,7 +104,7 @@ fn halt_here<D: Drivers>(stage: &mut Stage<D>, uid: u32) -> Result<(), Stop<Node
 /// after either the caller quenches.
 #[inline(never)]
 #[cycle(resetting)]
-pub fn halt<D: Drivers>(stage: &mut Stage<D>, uid: u32) -> Result<(), Stop<NodeFault>>
+pub fn halt<D: Drivers, P: Past>(stage: &mut Stage<D, P>, uid: u32) -> Result<(), Stop<NodeFault>>
     requires fits { (term : Term) × (view : View) × FitsOn D.states stage.old uid term view }
     requires running { (kept_at stage.old.kept.now uid).status ≡ IsRunning }
     requires held { RunningAreHeldOn stage.old uid }
@@ -123,8 +124,8 @@ pub fn halt<D: Drivers>(stage: &mut Stage<D>, uid: u32) -> Result<(), Stop<NodeF
 /// an `_onHalted`, or want of memory.
 #[inline(always)]
 #[cycle(resetting)]
-pub fn reset_children<D: Drivers>(
-    stage: &mut Stage<D>,
+pub fn reset_children<D: Drivers, P: Past>(
+    stage: &mut Stage<D, P>,
     uid: u32,
     span: Span,
 ) -> Result<(), Stop<NodeFault>>
@@ -148,8 +149,8 @@ pub fn reset_children<D: Drivers>(
 /// of an `_onHalted`, or want of memory.
 #[inline(always)]
 #[cycle(resetting)]
-fn reset_wanted<D: Drivers>(
-    stage: &mut Stage<D>,
+fn reset_wanted<D: Drivers, P: Past>(
+    stage: &mut Stage<D, P>,
     uid: u32,
     wanted: bool,
 ) -> Result<(), Stop<NodeFault>>

@@ -24,15 +24,15 @@ returns-in-Ok g c = λ of are.
     rw (← to_z-of_z w64 c.args.value c.ranges.value)
     (let step = change_told of.tree of.world c.args.fact _ c.args.at (g.D.Drivers.states c.args.drivers.now) c.args.runs.now are
     c.put.new.self c.put.ensures c.begin.new.block c.begin.ensures.header (ap (λ n. n.list) c.begin.ensures.notes) c.begin.ensures.facts c.begin.ensures.entries
-    c.tell_facts_in.new.told c.tell_facts_in.new.block c.in-Ok.ensures.rest c.in-Ok.ensures.facts in
+    c.tell_fact_in.new.told c.tell_fact_in.new.block c.in-Ok.ensures.rest c.in-Ok.ensures.facts in
     record {
       step = step;
       runs =
-          steady_after (Ok tt) of.tree of.world drivers drivers _ c.tell_facts_in.new.block _ step
+          steady_after (Ok tt) of.tree of.world drivers drivers _ c.tell_fact_in.new.block _ step
           (step_steady of.tree of.world (state_of_runs of.tree.term drivers c.args.runs.now) are.steady c.args.at c.requires.ahead (Change c.args.fact _))
           (change_stays of.tree of.world c.args.fact _ c.args.at (g.D.Drivers.states c.args.drivers.now) c.args.runs.now are
           c.put.new.self c.put.ensures c.begin.new.block c.begin.ensures.header (ap (λ n. n.list) c.begin.ensures.notes) c.begin.ensures.facts c.begin.ensures.entries
-          c.tell_facts_in.new.told c.in-Ok.ensures.told c.in-Ok.ensures.boards);
+          c.tell_fact_in.new.told c.in-Ok.ensures.told);
       quenched = tt;
       none = tt;
       usable = tt;
@@ -50,7 +50,7 @@ returns-in-Err g c = λ of are.
     (record {
       step = inl (change_cut of.tree of.world c.args.fact _ c.args.at (g.D.Drivers.states c.args.drivers.now) c.args.runs.now are
           c.put.new.self c.put.ensures c.begin.new.block c.begin.ensures.header (ap (λ n. n.list) c.begin.ensures.notes) c.begin.ensures.facts c.begin.ensures.entries
-          c.tell_facts_in.new.told c.stop.new.runs _ c.tell_facts_in.new.block.notes.list c.stop.new.notes.list (ap (λ b. b.notes.list) c.in-Err.ensures.rest) q);
+          c.tell_fact_in.new.told c.stop.new.runs _ c.tell_fact_in.new.block.notes.list c.stop.new.notes.list (ap (λ b. b.notes.list) c.in-Err.ensures.rest) q);
       runs = tt;
       quenched = quenched_stays of.tree _ _ _ _ _ _ q;
       none = c.stop.ensures.none;

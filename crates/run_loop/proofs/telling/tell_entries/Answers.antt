@@ -1,13 +1,25 @@
-use Rattle.std.proofs.Common.{refl}
-use Rattle.spec_run.specs.Run.{changed_entries, with_change}
-use Rattle.run_loop.proofs.Told.{alike_next, differ_next}
+use Rattle.std.proofs.Common.{◌++◌, None, get_or, length, sym, ap, ◌∙◌, arith}
+use Rattle.std.proofs.lemmas.List.{get_or_read}
+use Rattle.run_loop.proofs.Entries.{passed_over, told_next}
 use Rattle.run_loop.proofs.telling.tell_entries.Goals as goal
 
+-- slots that were not written give no changes
+pub loop-slot-init : goal.loop-slot-init
+loop-slot-init g c =
+    let first = c.next_written-slot in record {
+      within = first.ensures.last;
+      changes = ap (λ changes. c.args.changes.now.items ++ changes)
+          (sym (passed_over c.args.runner g.P.Past.past c.args.board.now c.list-entries.ensures.many 0 first.result first.ensures.later first.ensures.last first.ensures.between));
+    }
+
 pub loop-slot-preserved : goal.loop-slot-preserved
-loop-slot-preserved c =
-    let l = c.loop-slot in (
-      differ_next (changed_entries c.args.runner) (with_change c.args.runner) (λ k o os n ns. refl) c.args.told.now.items c.args.board.now l.slot c.loop-slot-test.true c.requires.same
-          l.changes.items c.tell_entry.new.changes.items _ l.told.items c.index_mut.result.now _ _ _ c.index_mut.ensures.value c.index-board-slot.is l.invariant.1 l.invariant.0 c.in_ok-tell_entry.ensures.changes,
-      alike_next (changed_entries c.args.runner) (with_change c.args.runner) (λ k o os n ns. refl) c.args.told.now.items c.args.board.now l.slot c.loop-slot-test.true c.requires.same
-          l.changes.items c.tell_entry.new.changes.items c.args.changes.now.items l.told.items c.index_mut.result.now _ _ _ c.index_mut.ensures.value c.index-board-slot.is l.invariant.1 _ c.in_ok-tell_entry.ensures.told,
-    )
+loop-slot-preserved g c =
+    let l = c.loop-slot in
+    let next = c.next_written-slot-in-loop-slot in
+    let entries = c.list-entries in record {
+      within = next.ensures.last;
+      changes = told_next c.args.runner g.P.Past.past c.args.board.now entries.ensures.many l.slot next.result _ _ l.changes.items c.tell_entry.new.changes.items _
+          (omega (arith, c.loop-slot-test.true, ap length entries.ensures.value)) c.past.ensures
+          (get_or_read entries.result.now l.slot _ c.loop-slot-test.true c.index-entries-slot.is None ∙ ap (λ board. get_or board l.slot None) entries.ensures.value)
+          next.ensures.later next.ensures.last next.ensures.between c.in_ok-tell_entry.ensures l.invariant.changes;
+    }

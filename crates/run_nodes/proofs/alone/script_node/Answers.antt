@@ -12,7 +12,7 @@ use Rattle.run_nodes.proofs.Following.{dropped, some_script, stopped_with, stops
 use Rattle.run_nodes.proofs.alone.script_node.Goals as goal
 
 pub returns-in_err-run_for_writes-in-Some-clause-settles : goal.returns-in_err-run_for_writes-in-Some-clause-settles
-returns-in_err-run_for_writes-in-Some-clause-settles c = λ term view script ms s k.
+returns-in_err-run_for_writes-in-Some-clause-settles g c = λ term view script ms s k.
     some_script
     (λ (o : Option Script). SettlesWith ms (as_given c.from_residual.result) (on_board c.run_for_writes.new.board s) (script_node o (site_of term view c.args.uid) ms (on_board c.args.board.now s)))
     view script _ c.in-Some.is k
@@ -23,7 +23,7 @@ returns-in_err-run_for_writes-in-Some-clause-settles c = λ term view script ms 
     (stopped_with ms (λ value _ s1. gives Success ms s1) _ _ _ _ (ap as_given (stops_with _ _ c.from_residual.ensures.1)) (c.in_err-run_for_writes-in-Some.ensures.settles term view x s k1)))
 
 pub returns-in_ok-run_for_writes-in-Some-clause-settles : goal.returns-in_ok-run_for_writes-in-Some-clause-settles
-returns-in_ok-run_for_writes-in-Some-clause-settles c = λ term view script ms s k.
+returns-in_ok-run_for_writes-in-Some-clause-settles g c = λ term view script ms s k.
     some_script
     (λ (o : Option Script). script_node o (site_of term view c.args.uid) ms (on_board c.args.board.now s) ≡ done (record { answer = Success; memo = Nothing }) ms (on_board c.run_for_writes.new.board s))
     view script _ c.in-Some.is k

@@ -50,7 +50,7 @@ pub returns-in_err-keep_inputs-clause-meets : goal.returns-in_err-keep_inputs-cl
 returns-in_err-keep_inputs-clause-meets g c = λ term view ms fits.
     let s = c.args.stage.now in
     let states = g.D.Drivers.states in
-    let Met : Stage g.row.D.Denot → Type 0 = λ left. MeetsOn states (λ _. ms) (as_given c.from_residual-in_err-keep_inputs.result) s left (call_on states s c.args.uid term view ms) in
+    let Met : Stage g.row.D.Denot g.row.P.Denot → Type 0 = λ left. MeetsOn states (λ _. ms) (as_given c.from_residual-in_err-keep_inputs.result) s left (call_on states s c.args.uid term view ms) in
     subst Met (sym c.in_err-keep_inputs.ensures.err)
     (cut_before s.nodes.now s.moment (λ _. ms) _ _ _ _ _ (ap as_given (stops_with _ _ c.from_residual-in_err-keep_inputs.ensures.1)) (ap (λ (n : Noted). n.list) c.in_ok-room.ensures.ok))
 

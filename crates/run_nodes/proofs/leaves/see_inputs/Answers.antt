@@ -6,6 +6,6 @@ use Rattle.run_nodes.proofs.Filling.{filled_more}
 use Rattle.run_nodes.proofs.leaves.see_inputs.Goals as goal
 
 pub loop-place-preserved : goal.loop-place-preserved
-loop-place-preserved c =
+loop-place-preserved g c =
     let filled = filled_more (λ source. sight (source_value c.args.board.now source)) c.args.sources.now c.loop-place.place 8 c.index-sources-place.result Absent (omega arith) (omega arith) c.index-sources-place.is in
     rw (c.loop-place.invariant, c.seen_of.ensures) filled

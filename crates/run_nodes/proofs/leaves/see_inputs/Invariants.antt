@@ -5,4 +5,4 @@ use Rattle.run_nodes.specs.Calls.{seen_inputs}
 use Rattle.run_nodes.proofs.leaves.see_inputs.Given as goal
 
 abbrev pub invariant-loop-place : goal.invariant-loop-place
-invariant-loop-place l = l.inputs ≡ seen_inputs l.board (take l.place l.sources) ++ replicate (8 - l.place) Absent
+invariant-loop-place g l = l.inputs ≡ seen_inputs l.board (take l.place l.sources) ++ replicate (8 - l.place) Absent

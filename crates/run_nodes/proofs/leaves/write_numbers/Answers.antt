@@ -4,4 +4,4 @@ use Rattle.std.proofs.lemmas.List.{drop_more}
 use Rattle.run_nodes.proofs.leaves.write_numbers.Goals as goal
 
 pub loop-place-preserved : goal.loop-place-preserved
-loop-place-preserved c = grind (arith, common_steps, drop_more)
+loop-place-preserved g c = grind (arith, common_steps, drop_more)

@@ -10,7 +10,7 @@ use Rattle.run_nodes.proofs.ToldValues.{differ_from, no_sources, written_more}
 use Rattle.run_nodes.proofs.leaves.write_told.Goals as goal
 
 pub loop-place-preserved : goal.loop-place-preserved
-loop-place-preserved c =
+loop-place-preserved g c =
     let i = c.loop-place.place in
     let names = c.args.names.now in
     let name = c.in-Some.name.now in
@@ -31,7 +31,7 @@ loop-place-preserved c =
     }
 
 pub returns-clause-written : goal.returns-clause-written
-returns-clause-written c =
+returns-clause-written g c =
     let i = c.loop-place.place in
     let names = drop i c.args.names.now in
     sym (no_sources names c.loop-place.told.items c.loop-place.board)

@@ -3,4 +3,4 @@ use Rattle.spec_run.specs.Visit.{or_bad_port}
 use Rattle.run_nodes.proofs.ports.picked.Goals as goal
 
 pub returns : goal.returns
-returns c = λ term view whole s k. c.or_bad_port.ensures ∙ ap (or_bad_port c.args.uid) (c.pick.ensures term view whole c.args.uid s k)
+returns g c = λ term view whole s k. c.or_bad_port.ensures ∙ ap (or_bad_port c.args.uid) (c.pick.ensures term view whole c.args.uid s k)

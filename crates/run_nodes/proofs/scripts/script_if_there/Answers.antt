@@ -7,7 +7,7 @@ use Rattle.run_nodes.proofs.Following.{some_script}
 use Rattle.run_nodes.proofs.scripts.script_if_there.Goals as goal
 
 pub returns-in-Some-clause-settles : goal.returns-in-Some-clause-settles
-returns-in-Some-clause-settles c = λ term view script s k.
+returns-in-Some-clause-settles g c = λ term view script s k.
     some_script
     (λ (o : Option Script). Settles c.run_for_writes.result (on_board c.run_for_writes.new.board s) (script_if_there (site_of term view c.args.uid) o (on_board c.args.board.now s)))
     view script _ c.in-Some.is k

@@ -103,10 +103,13 @@ reset_children-reset_wanted-requires g t c =
     λ κs lives. (
       omega (arith, smaller, c.decreases),
       (
-        λ a is. lives a is,
+        λ a is. lives.0 a is,
         (
-          (w.next.child, below, fits_later g.D.Drivers.states _ at i.keeps.same w.next.child below child w.fits),
-          running_below at.nodes.now at.kept.now c.args.uid child (omega (arith, w.low)) (omega (arith, w.high, child_size, size)) i.held,
+          λ a is. lives.1 a is,
+          (
+            (w.next.child, below, fits_later g.D.Drivers.states _ at i.keeps.same w.next.child below child w.fits),
+            running_below at.nodes.now at.kept.now c.args.uid child (omega (arith, w.low)) (omega (arith, w.high, child_size, size)) i.held,
+          ),
         ),
       ),
     )
