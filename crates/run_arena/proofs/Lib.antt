@@ -3,6 +3,7 @@ pub mod Agreeing
 pub mod Called
 pub mod Compilable
 pub mod Compiled
+pub mod Copied
 pub mod Follows
 pub mod Framed
 pub mod Indexed

@@ -1,5 +1,6 @@
 pub mod Blocks
 pub mod Booked
+pub mod Copying
 pub mod Ends
 pub mod Joining
 pub mod Laying

@@ -78,45 +78,24 @@ fn place_of<D: Drivers>(
     }
 }
 
-/// How many of the leaves of these IDs each driver serves. The fault is what is missing for the
-/// first leaf for which something is missing.
-fn counts_of<D: Drivers>(
+/// Checks that nothing is missing for the leaves of these IDs. The fault is what is missing for the first leaf for which
+/// something is missing.
+fn check_ids<D: Drivers>(
     alloc: Global,
     ids: &[&Name],
     world: &IndexedWorld,
     drivers: &D,
-) -> Result<Vec<u32>, Stop<JoinFault>>
-    ensures fault { Joins result (first_missing world.now.rows (D.states drivers.now) (ids_lent ids.now)) }
-    ensures counts { IfOk result (λ counts.
-        counts.items ≡ counted_all world.now (D.states drivers.now) (ids_lent ids.now) (replicate (length (D.states drivers.now)) 0)) }
+) -> Result<(), Stop<JoinFault>>
+    ensures { Joins result (first_missing world.now.rows (D.states drivers.now) (ids_lent ids.now)) }
 {
-    let mut counts = vec![in alloc; 0u32; drivers.count()]?;
     for id in ids {
-        let place = place_of(alloc, *id, world, drivers)?;
-        next_instance(&mut counts, place)?;
+        place_of(alloc, *id, world, drivers)?;
     }
-    Ok(counts)
-}
-
-/// The first instance of a runner at each driver, after those of the runners before it: each of
-/// these has `counts` of them. The error is want of memory, also where there would be 2^32.
-fn firsts_of(alloc: Global, counts: &[u32], runner: u8) -> Result<Vec<u32>, NoMemory>
-    requires { 1 ≤ runner }
-    ensures { IfOk result (λ firsts. firsts.items ≡ map (λ count. (runner - 1) * count) counts.now) }
-{
-    let before = u32::from(runner) - 1;
-    let mut firsts = Vec::new(alloc);
-    for count in counts {
-        match before.checked_mul(*count) {
-            Some(first) => firsts.push(first)?,
-            None => return Err(NoMemory),
-        }
-    }
-    Ok(firsts)
+    Ok(())
 }
 
 /// What this many nodes keep before their first visit, or want of memory.
-fn at_rest(alloc: Global, count: usize) -> Result<Vec<Kept>, NoMemory>
+pub(crate) fn at_rest(alloc: Global, count: usize) -> Result<Vec<Kept>, NoMemory>
     ensures { IfOk result (λ kept. kept.items ≡ replicate count rested) }
 {
     let rest = Kept {
@@ -127,44 +106,34 @@ fn at_rest(alloc: Global, count: usize) -> Result<Vec<Kept>, NoMemory>
     Ok(vec![in alloc; rest; count]?)
 }
 
-/// How many leaves of a term each driver serves. The fault is what is missing for the first leaf in
-/// pre-order for which something is missing.
-fn totals_of<D: Drivers>(
+/// Checks that nothing is missing for the leaves of a term. The fault is what is missing for the first leaf in pre-order
+/// for which something is missing.
+fn check_leaves<D: Drivers>(
     alloc: Global,
     term: &Term,
     world: &IndexedWorld,
     drivers: &D,
-) -> Result<Vec<u32>, Stop<JoinFault>>
-    ensures fault { Joins result (first_missing world.now.rows (D.states drivers.now) (leaf_ids term.now)) }
-    ensures counts { IfOk result (λ counts.
-        counts.items ≡ counted_all world.now (D.states drivers.now) (leaf_ids term.now) (replicate (length (D.states drivers.now)) 0)) }
+) -> Result<(), Stop<JoinFault>>
+    ensures { Joins result (first_missing world.now.rows (D.states drivers.now) (leaf_ids term.now)) }
 {
     let mut ids = Vec::new(alloc);
     add_ids(term, &mut ids)?;
-    counts_of(alloc, ids.as_slice(), world, drivers)
+    check_ids(alloc, ids.as_slice(), world, drivers)
 }
 
-/// The arena of a runner, where `firsts` has its first instance at each driver. The error is want of
-/// memory.
-fn arena_with<D: Drivers>(
-    setting: &Setting,
-    drivers: &D,
-    mut firsts: Vec<u32>,
-    runner: u8,
-) -> Result<Arena, NoMemory>
+/// The arena of the first runner, for a tree of which nothing is missing. The error is want of memory.
+fn arena_with<D: Drivers>(setting: &Setting, drivers: &D) -> Result<Arena, NoMemory>
     requires tree { IsRunnable setting.now.tree.now }
     requires world { IsRunnableWorld setting.now.world.now }
     requires joined { first_missing setting.now.world.now.rows (D.states drivers.now) (leaf_ids setting.now.tree.now.term) ≡ None }
-    requires firsts { firsts.items ≡ map (λ count. (runner - 1) * count)
-        (counted_all setting.now.world.now (D.states drivers.now) (leaf_ids setting.now.tree.now.term)
-        (replicate (length (D.states drivers.now)) 0)) }
-    ensures { IfOk result (λ arena. IsArenaOf setting.now.tree.now setting.now.world.now (D.states drivers.now) runner arena) }
+    ensures { IfOk result (λ arena. IsArenaOf setting.now.tree.now setting.now.world.now (D.states drivers.now) 1 arena) }
 {
-    let nodes = nodes_of(setting, drivers, &mut firsts)?;
+    let mut next = vec![in setting.alloc; 0u32; drivers.count()]?;
+    let nodes = nodes_of(setting, drivers, &mut next)?;
     let kept = at_rest(setting.alloc, nodes.len())?;
     let frames = frames_for(setting.alloc, &setting.tree.term)?;
     Ok(Arena {
-        runner,
+        runner: 1,
         nodes,
         kept,
         frames,
@@ -186,7 +155,6 @@ pub fn first_arena_of<D: Drivers>(
     requires joined { first_missing world.now.rows (D.states drivers.now) (leaf_ids tree.now.term) ≡ None }
     ensures { IfOk result (λ arena. IsArenaOf tree.now world.now (D.states drivers.now) 1 arena) }
 {
-    let firsts = vec![in alloc; 0u32; drivers.count()]?;
     let setting = Setting {
         alloc,
         tree,
@@ -195,39 +163,27 @@ pub fn first_arena_of<D: Drivers>(
         book: RefCell::new(Book::empty(alloc)),
         unguarded: Shared::of(alloc, no_guards())?,
     };
-    arena_with(&setting, drivers, firsts, 1)
+    arena_with(&setting, drivers)
 }
 
-/// Makes the arena of a runner of a world, for a tree with its slots: each node has what its visits
+/// Makes the arena of the first runner of a world, for a tree with its slots: each node has what its visits
 /// need and is at rest, and there is room for the visits that can be under way at once.
-/// A leaf has the first driver of its row's kind. Its instance is numbered by runner, then by uid,
-/// among the leaves that this driver serves. The fault is that of the first leaf in pre-order that
-/// has no row, or whose row has no driver.
+/// A leaf has the first driver of its row's kind. Its instance is numbered by uid among the leaves that
+/// this driver serves. The fault is that of the first leaf in pre-order that has no row, or whose row
+/// has no driver.
 pub fn arena_of<D: Drivers>(
     alloc: Global,
     tree: &Tree,
     slots: &Slots,
     world: &IndexedWorld,
     drivers: &D,
-    runner: u8,
 ) -> Result<Arena, Stop<JoinFault>>
     requires tree { IsRunnable tree.now }
     requires slots { slots.now ≡ slot_table tree.now }
     requires world { IsRunnableWorld world.now }
-    requires first { 1 ≤ runner }
-    requires last { runner ≤ world.now.runners }
     ensures fault { Joins result (first_missing world.now.rows (D.states drivers.now) (leaf_ids tree.now.term)) }
-    ensures arena { IfOk result (λ arena. IsArenaOf tree.now world.now (D.states drivers.now) runner arena) }
+    ensures arena { IfOk result (λ arena. IsArenaOf tree.now world.now (D.states drivers.now) 1 arena) }
 {
-    let counts = totals_of(alloc, &tree.term, world, drivers)?;
-    let setting = Setting {
-        alloc,
-        tree,
-        slots,
-        world,
-        book: RefCell::new(Book::empty(alloc)),
-        unguarded: Shared::of(alloc, no_guards())?,
-    };
-    let firsts = firsts_of(alloc, counts.as_slice(), runner)?;
-    Ok(arena_with(&setting, drivers, firsts, runner)?)
+    check_leaves(alloc, &tree.term, world, drivers)?;
+    Ok(first_arena_of(alloc, tree, slots, world, drivers)?)
 }

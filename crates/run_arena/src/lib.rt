@@ -5,6 +5,7 @@
 mod arena;
 mod block;
 mod book;
+mod copying;
 mod frame;
 mod joining;
 pub mod laws;
@@ -24,6 +25,7 @@ pub use arena::{
     Arena, keep, kept_by, leaf_count, memo, node, set_held, set_memo, set_status, status,
 };
 pub use block::{Block, block_for};
+pub use copying::arena_after;
 pub use frame::Frame;
 pub use joining::{arena_of, first_arena_of};
 pub use nodes::{Kept, Node, ReadyGuards, ReadyLeaf};

@@ -1,4 +1,4 @@
-ghost use Rattle.std.specs.Prelude.{◌≡◌, [], ◌∷◌, ◌++◌, OnErr, OnOk};
+ghost use Rattle.std.specs.Prelude.{◌≡◌, [], ◌∷◌, ◌++◌, IfOk, OnErr, OnOk};
 
 use base_texts::NoMemory;
 use std::alloc::Global;
@@ -79,6 +79,17 @@ impl Uids {
         self.len = 0;
         self.more.push(uid)?;
         Ok(())
+    }
+
+    /// Equal uids. The error is want of memory.
+    pub(crate) fn copy(&self, alloc: Global) -> Result<Uids, NoMemory>
+        ensures { IfOk result (λ copied. copied ≡ self.now) }
+    {
+        Ok(Uids {
+            few: self.few,
+            len: self.len,
+            more: Vec::from_slice(alloc, self.more.as_slice())?,
+        })
     }
 
     /// Lends the uids.

@@ -1,5 +1,6 @@
 ghost use Rattle.std.specs.Prelude.{◌≡◌, ◌≤◌, List, IfOk, None, length};
 ghost use Rattle.spec_tree.specs.declared.term.Tree.{Tree as Modelled};
+ghost use Rattle.spec_world.specs.declared.world.World.{World as Whole};
 ghost use Rattle.base_tables.specs.SlotTables.{slot_table};
 ghost use Rattle.spec_run.specs.Drivers.{DriverState};
 ghost use Rattle.spec_tree.specs.Terms.{leaf_ids};
@@ -11,7 +12,7 @@ ghost use Rattle.run_loop.specs.Opening.{AreOpening, AreOpeningRuns, IsOpening};
 
 use crate::runs::{ReadyRunner, Runs};
 use base_texts::{NoMemory, Stop};
-use run_arena::{IndexedWorld, arena_of, first_arena_of};
+use run_arena::{IndexedWorld, arena_after, arena_of, first_arena_of};
 use run_driver::{Drivers, FactTable, facts_of};
 use spec_run::JoinFault;
 use spec_tree::Tree;
@@ -19,25 +20,43 @@ use spec_world::World;
 use std::alloc::Global;
 use tree_board::{Slots, board_of};
 
-/// The runner of this number before the first event. The fault is what is missing for the first
-/// leaf for which something is missing.
-fn runner_of<D: Drivers>(
+/// The first runner before the first event. The fault is what is missing for the first leaf for
+/// which something is missing.
+fn first_runner<D: Drivers>(
     alloc: Global,
     tree: &Tree,
     slots: &Slots,
     world: &IndexedWorld,
     drivers: &D,
-    number: u8,
 ) -> Result<ReadyRunner, Stop<JoinFault>>
     requires tree { IsRunnable tree.now }
     requires slots { slots.now ≡ slot_table tree.now }
     requires world { IsRunnableWorld world.now }
-    requires first { 1 ≤ number }
-    requires last { number ≤ world.now.runners }
     ensures fault { Joins result (first_missing world.now.rows (D.states drivers.now) (leaf_ids tree.now.term)) }
-    ensures runner { IfOk result (λ runner. IsOpening tree.now world.now (D.states drivers.now) number runner) }
+    ensures runner { IfOk result (λ runner. IsOpening tree.now world.now (D.states drivers.now) 1 runner) }
 {
-    let arena = arena_of(alloc, tree, slots, world, drivers, number)?;
+    let arena = arena_of(alloc, tree, slots, world, drivers)?;
+    let board = board_of(alloc, tree, slots)?;
+    Ok(ReadyRunner { arena, board })
+}
+
+/// The runner of this number before the first event, made of the first one, or want of memory.
+fn runner_after<D: Drivers>(
+    alloc: Global,
+    tree: &Tree,
+    slots: &Slots,
+    first: &ReadyRunner,
+    drivers: &D,
+    number: u8,
+) -> Result<ReadyRunner, NoMemory>
+    requires tree { IsRunnable tree.now }
+    requires slots { slots.now ≡ slot_table tree.now }
+    requires number { 1 ≤ number }
+    requires first { (world : Whole) × IsOpening tree.now world (D.states drivers.now) 1 first.now }
+    ensures { (world : Whole) → IsOpening tree.now world (D.states drivers.now) 1 first.now →
+        IfOk result (λ runner. IsOpening tree.now world (D.states drivers.now) number runner) }
+{
+    let arena = arena_after(alloc, tree, &first.arena, drivers, number)?;
     let board = board_of(alloc, tree, slots)?;
     Ok(ReadyRunner { arena, board })
 }
@@ -58,9 +77,11 @@ fn runners_of<D: Drivers>(
     ensures many { IfOk result (λ runners. length runners.items ≡ world.now.runners) }
     ensures runners { IfOk result (λ runners. AreOpening tree.now world.now (D.states drivers.now) runners.items) }
 {
+    let first = first_runner(alloc, tree, slots, world, drivers)?;
     let mut runners = Vec::new(alloc);
-    for before in 0..world.world().runners {
-        let runner = runner_of(alloc, tree, slots, world, drivers, before + 1)?;
+    runners.push(first)?;
+    for before in 1..world.world().runners {
+        let runner = runner_after(alloc, tree, slots, &runners[0], drivers, before + 1)?;
         runners.push(runner)?;
     }
     Ok(runners)

@@ -95,6 +95,20 @@ pub struct Code {
     ghost numbered: { All (λ s. stmt_code_reach s ≤ length slots) stmts },
 }
 
+impl Code {
+    ghost use Rattle.std.specs.Prelude.{IfOk};
+
+    /// The code for one more owner. It allocates nothing; `NoMemory` stands for a full count of owners.
+    pub fn share(&self) -> Result<Code, NoMemory>
+        ensures { IfOk result (λ code. code ≡ self.now) }
+    {
+        Ok(Code {
+            stmts: self.stmts.share()?,
+            slots: self.slots.share()?,
+        })
+    }
+}
+
 /// The code of an expression. Contracts see its `formula`: what it gives, and what it needs.
 #[derive(Debug, Drop)]
 pub struct ExprCode {
