@@ -1,8 +1,11 @@
 pub mod CellOrder
 pub mod NameCounts
+pub mod Firsts
 pub mod Named
+pub mod Numbered
 pub mod Openings
 pub mod Ordered
+pub mod Ranked
 pub mod Records
 pub mod Resolved
 pub mod Scoping

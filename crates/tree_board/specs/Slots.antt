@@ -1,20 +1,32 @@
 -- What the slots of a tree mean.
-use Rattle.std.specs.Prelude.{ℕ, List, map}
+use Rattle.std.specs.Prelude.{ℕ, ◌<◌, List, map, get_or}
 use Rattle.std.specs.declared.cmp.Ordering.{Ordering}
 use Rattle.spec_tree.specs.declared.cell.Cell.{Cell}
-use Rattle.spec_tree.specs.declared.cell.Naming.{Naming}
 use Rattle.base_tables.specs.SlotTables.{SlotTable}
-use Rattle.spec_tree.specs.Boards.{cell_order, owner, slot_in}
+use Rattle.tree_board.specs.declared.rows.Row.{Row}
 use Rattle.tree_board.specs.declared.slots.Entry.{Entry}
+use Rattle.tree_board.specs.Rows.{cell_by, first_by, place_order}
 
 -- entries are ordered by what is named
 abbrev pub entry_order : Entry → Entry → Ordering
-entry_order a b = cell_order a.named b.named
+entry_order a b = place_order a.named b.named
 
--- the table of these cells and entries
-abbrev pub table : List Cell → List Entry → SlotTable
-table cells entries = record { cells = cells; named = map {B = Cell × ℕ} (λ (e : Entry). (e.named, e.slot)) entries }
+-- an entry has the number of one of so many keys
+abbrev pub IsOf : ℕ → Entry → Type 0
+IsOf count e = e.named.1 < count
 
--- what is named, with the slot of its cell
-abbrev pub entry_of : List Cell → Naming → Entry
-entry_of cells n = record { named = owner n.number n.key; slot = slot_in cells n.cell }
+-- what an entry says
+abbrev pub told_by : List (List ℕ) → Entry → Cell × ℕ
+told_by keys e = (cell_by keys e.named, e.slot)
+
+-- the table of these keys, cells and entries
+abbrev pub table : List (List ℕ) → List Cell → List Entry → SlotTable
+table keys cells entries = record { cells = cells; named = map {B = Cell × ℕ} (told_by keys) entries }
+
+-- a key by its place in order
+abbrev pub ranked : List ℕ → ℕ × ℕ → ℕ × ℕ
+ranked ranks place = (place.0, get_or ranks place.1 0)
+
+-- what a row names, with the slot of its cell
+abbrev pub entry_by : List ℕ → List (ℕ × ℕ) → Row → Entry
+entry_by ranks places row = record { named = ranked ranks row.named; slot = first_by place_order places (ranked ranks row.cell) }

@@ -54,13 +54,11 @@ impl Keys {
         if self.is_at(mark, key) {
             return Ok(());
         }
-        match self.set.get_index_of(key) {
-            Some(place) => self.remember(alloc, mark, place),
-            None => {
-                self.set.insert(key.copy(alloc)?)?;
-                Ok(())
-            }
+        let (place, is_new) = self.set.insert_full(key.copy(alloc)?)?;
+        if is_new {
+            return Ok(());
         }
+        self.remember(alloc, mark, place)
     }
 
     /// Whether the key is the one that is remembered by its mark.

@@ -7,8 +7,10 @@ mod board;
 mod keys;
 mod limit;
 mod naming;
+mod numbers;
 mod order;
 mod recorded;
+mod rows;
 mod scope;
 mod slots;
 

@@ -10,10 +10,11 @@ ghost use Rattle.spec_tree.specs.Terms.{node_count};
 ghost use Rattle.tree_board.specs.Namings.{script_names, names_here, keys_of_node, namings_of_term, namings_of_terms, AreNamed, HaveSame};
 
 use crate::keys::Keys;
+use crate::rows::Namings;
 use crate::scope::{Scope, cell_in, mappings_of, scope_number};
 use base_texts::{NoMemory, Shared};
 use spec_script::{Expr, Script, Stmt};
-use spec_tree::{Guards, Kind, Naming, Port, PortValue, Term, Tree};
+use spec_tree::{Guards, Kind, Port, PortValue, Term, Tree};
 use std::alloc::Global;
 
 /// Adds the names that an expression looks at.
@@ -130,17 +131,13 @@ fn name_scope(
     alloc: Global,
     scope: &Scope,
     keys: &Keys,
-    namings: &mut Vec<Naming>,
+    namings: &mut Namings,
 ) -> Result<(), NoMemory>
-    ensures { OnOk result (namings.new.items ≡ namings.old.items ++ names_here scope.now keys.now) }
+    ensures { OnOk result (namings.new ≡ namings.old ++ names_here scope.now keys.now) }
 {
     for key in keys.list() {
         let cell = cell_in(alloc, scope, key)?;
-        namings.push(Naming {
-            number: scope_number(scope),
-            key: key.copy(alloc)?,
-            cell,
-        })?;
+        namings.add(alloc, scope_number(scope), key, &cell)?;
     }
     Ok(())
 }
@@ -155,12 +152,12 @@ fn name_subtree(
     uid: u32,
     scope: &Scope,
     keys: &mut Keys,
-    namings: &mut Vec<Naming>,
+    namings: &mut Namings,
 ) -> Result<u32, NoMemory>
     requires { (out-Term term.now).kind ≡ SubTree }
     ensures next { IfOk result (λ next. next ≡ uid + node_count term.now) }
     ensures named { OnOk result (AreNamed scope.now (namings_of_term term.now uid)
-        keys.old namings.old.items keys.new namings.new.items) }
+        keys.old namings.old keys.new namings.new) }
 {
     let first = uid_after(uid)?;
     name_node(alloc, term, keys)?;
@@ -185,11 +182,11 @@ fn name_term(
     uid: u32,
     scope: &Scope,
     keys: &mut Keys,
-    namings: &mut Vec<Naming>,
+    namings: &mut Namings,
 ) -> Result<u32, NoMemory>
     ensures next { IfOk result (λ next. next ≡ uid + node_count term.now) }
     ensures named { OnOk result (AreNamed scope.now (namings_of_term term.now uid)
-        keys.old namings.old.items keys.new namings.new.items) }
+        keys.old namings.old keys.new namings.new) }
 {
     if let Kind::SubTree = term.kind {
         name_subtree(alloc, term, uid, scope, keys, namings)
@@ -209,11 +206,11 @@ fn name_terms(
     uid: u32,
     scope: &Scope,
     keys: &mut Keys,
-    namings: &mut Vec<Naming>,
+    namings: &mut Namings,
 ) -> Result<u32, NoMemory>
     ensures next { IfOk result (λ next. next ≡ uid + sum (map node_count terms.now)) }
     ensures named { OnOk result (AreNamed scope.now (namings_of_terms terms.now uid)
-        keys.old namings.old.items keys.new namings.new.items) }
+        keys.old namings.old keys.new namings.new) }
 {
     let mut next = uid;
     for term in terms {
@@ -223,10 +220,10 @@ fn name_terms(
 }
 
 /// All that a tree names, each key once in each scope.
-pub(crate) fn name_tree(alloc: Global, tree: &Tree) -> Result<Vec<Naming>, NoMemory>
-    ensures { IfOk result (λ named. HaveSame named.items (namings tree.now)) }
+pub(crate) fn name_tree(alloc: Global, tree: &Tree) -> Result<Namings, NoMemory>
+    ensures { IfOk result (λ named. HaveSame named (namings tree.now)) }
 {
-    let mut named = Vec::new(alloc);
+    let mut named = Namings::new(alloc);
     let mut keys = Keys::new(alloc);
     name_term(alloc, &tree.term, 1, &Scope::Main, &mut keys, &mut named)?;
     name_scope(alloc, &Scope::Main, &keys, &mut named)?;

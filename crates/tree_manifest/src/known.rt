@@ -4,16 +4,17 @@ ghost use Rattle.std.specs.Str.{bytes_eq};
 ghost use Rattle.tree_manifest.specs.Known.{AreNames};
 
 use base_texts::{Name, NoMemory};
-use indexmap::IndexSet;
 use spec_tree_file::{ModelPort, NodeModel};
 use std::alloc::Global;
+use std::collections::BTreeSet;
 use std::marker::Model;
 
 /// A model whose ports are found by their names, however many it has. Contracts see the model.
 #[derive(Drop)]
 pub struct KnownModel {
     model: NodeModel,
-    names: IndexSet<Name>,
+    /// In the order of their bytes, so that no names are slow, whatever their hashes would be.
+    names: BTreeSet<Name>,
 }
 
 impl Model for KnownModel {
@@ -52,10 +53,10 @@ impl KnownModel {
 }
 
 /// The names of the ports.
-fn names_of(alloc: Global, ports: &[ModelPort]) -> Result<IndexSet<Name>, NoMemory>
+fn names_of(alloc: Global, ports: &[ModelPort]) -> Result<BTreeSet<Name>, NoMemory>
     ensures { IfOk result (λ names. AreNames names.keys ports.now) }
 {
-    let mut names = IndexSet::with_capacity(alloc, ports.len())?;
+    let mut names = BTreeSet::new(alloc);
     for port in ports {
         names.insert(port.name.copy(alloc)?)?;
     }

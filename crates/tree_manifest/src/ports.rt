@@ -1,29 +1,33 @@
-ghost use Rattle.std.specs.Prelude.{◌≡◌, false, option_copied, IfOk};
+ghost use Rattle.std.specs.Prelude.{◌≡◌, option_copied, IfOk};
 ghost use Rattle.base_texts.specs.Stops.{Gives};
-ghost use Rattle.spec_tree.specs.Names.{is_among};
 ghost use Rattle.spec_tree_file.specs.Models.{no_ports, with_child, with_children, with_port, with_port_named, with_written};
 
 use crate::attributes::attribute;
 use crate::names::{can_be_written, is_port};
 use base_texts::{Name, NoMemory, Stop};
-use indexmap::IndexSet;
 use spec_tree_file::{Element, ManifestFault, ModelPort};
 use std::alloc::Global;
+use std::collections::BTreeSet;
 use std::marker::Model;
 
 /// The ports of a model so far, and the names of all, also of those that can't be written.
 #[derive(Drop)]
 pub struct Ports {
     ports: Vec<ModelPort>,
-    names: IndexSet<Name>,
+    names: Vec<Name>,
+    /// The names in the order of their bytes, so that no names are slow, whatever their hashes would be.
+    kept: BTreeSet<Name>,
 }
 
 impl Model for Ports {
     ghost use Rattle.spec_tree_file.specs.Models.{Ports as Seen};
+    ghost use Rattle.tree_manifest.specs.Known.{AreKept};
 
     ghost Value = { Seen };
 
-    ghost view = { λ p. record { ports = p.ports.items; names = p.names.keys } };
+    ghost view = { λ p. record { ports = p.ports.items; names = p.names.items } };
+
+    ghost invariant = { λ p. AreKept p.kept.keys p.names.items };
 }
 
 impl Ports {
@@ -33,7 +37,8 @@ impl Ports {
     {
         Ports {
             ports: Vec::new(alloc),
-            names: IndexSet::new(alloc),
+            names: Vec::new(alloc),
+            kept: BTreeSet::new(alloc),
         }
     }
 
@@ -41,20 +46,24 @@ impl Ports {
     pub fn into_ports(self) -> Vec<ModelPort>
         ensures { result.items ≡ self.ports }
     {
-        let Ports { ports, names: _ } = self;
+        let Ports { ports, .. } = self;
         ports
     }
 
-    /// The ports with one of this name, which no earlier one has. `NoMemory` (want of memory, that is, out of memory),
+    /// The ports with one of this name. `NoMemory` (want of memory, that is, out of memory),
     /// here and below, where an allocation fails.
     fn with(self, alloc: Global, name: &Name, fallback: Option<&Name>) -> Result<Ports, NoMemory>
-        requires { is_among name.now self.names ≡ false }
         ensures { IfOk result (λ p. p ≡ with_port self name.now (option_copied fallback.entry)) }
     {
-        let Ports { ports, mut names } = self;
-        names.insert(name.copy(alloc)?)?;
+        let Ports {
+            ports,
+            mut names,
+            mut kept,
+        } = self;
+        kept.insert(name.copy(alloc)?)?;
+        names.push(name.copy(alloc)?)?;
         let ports = with_written(alloc, ports, name, fallback)?;
-        Ok(Ports { ports, names })
+        Ok(Ports { ports, names, kept })
     }
 }
 
@@ -99,7 +108,7 @@ impl Ports {
         }
         let attributes = child.attributes.list();
         match attribute(attributes, b"name") {
-            Some(name) if !self.names.contains(name) => {
+            Some(name) if !self.kept.contains(name) => {
                 Ok(self.with(alloc, name, attribute(attributes, b"default"))?)
             }
             _ => Err(Stop::Fault(ManifestFault::BadModel { place: child.place })),

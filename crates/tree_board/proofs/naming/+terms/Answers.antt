@@ -40,7 +40,7 @@ name_subtree-returns-clause-named t c =
     let ports = c.in_ok-name_ports.ensures
     ∙ ap (λ (ports : List Port). insert_all bytes_eq c.new-inner_keys.result (map (λ (port : Port). port.name) ports)) c.list-ports.ensures
     ∙ ap (λ (keys : List (List ℕ)). insert_all bytes_eq keys names) c.new-inner_keys.ensures in
-    subtree_named c.args.namings.now.items (names_here c.args.scope.now c.args.keys.now) _ (names_here c.args.scope.now (keys_of_node c.args.term.now)) _ (map (named_in number inner) names) _ _ _
+    subtree_named c.args.namings.now (names_here c.args.scope.now c.args.keys.now) _ (names_here c.args.scope.now (keys_of_node c.args.term.now)) _ (map (named_in number inner) names) _ _ _
     own (named_once number inner [] names _ ports) (λ p. ap (list_any p) c.in_ok-name_scope.ensures ∙ c.in_ok-next.ensures.named p)
     (named ∙ ap (λ (ns : List Naming). names_here c.args.scope.now (keys_of_node c.args.term.now) ++ map (named_in number inner) names ++ ns) (sym children))
 
@@ -55,7 +55,7 @@ name_term-returns-in_ok-name_node-clause-named t c =
     ∙ ap (λ (uid : ℕ). namings_of_terms (out-Term c.args.term.now).children uid number outer) c.in_ok-first.ensures in
     let own = named_once number outer c.args.keys.now (keys_of_node c.args.term.now) _ c.in_ok-name_node.ensures in
     on_ok_weaker c.name_terms.result
-    (λ last. other_named c.args.namings.now.items (names_here c.args.scope.now c.args.keys.now) _ _ _ _ _ own last
+    (λ last. other_named c.args.namings.now (names_here c.args.scope.now c.args.keys.now) _ _ _ _ _ own last
     (named ∙ ap (λ (ns : List Naming). names_here c.args.scope.now (keys_of_node c.args.term.now) ++ ns) (sym children)))
     c.name_terms.ensures.named
 
@@ -76,7 +76,7 @@ pub name_terms-returns-clause-named : goal.name_terms-returns-clause-named
 name_terms-returns-clause-named t c =
     let number = number_of c.args.scope.now in
     let scope = cells_of c.args.scope.now in
-    let so_far = named_so_far c.args.scope.now c.loop-term.keys c.loop-term.namings.items in
+    let so_far = named_so_far c.args.scope.now c.loop-term.keys c.loop-term.namings in
     let none : drop c.loop-term.term-index c.args.terms.now ≡ [] = drop_all c.loop-term.term-index c.args.terms.now (omega (arith, c.loop-term-test.false)) in
     none_left so_far _
     (then_same _ _ _ (same_from _ _ (ap (λ (terms : List Term). so_far ++ namings_of_terms terms c.loop-term.next number scope) (sym none))) c.loop-term.invariant.named)

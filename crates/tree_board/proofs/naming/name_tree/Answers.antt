@@ -9,6 +9,6 @@ use Rattle.tree_board.proofs.naming.name_tree.Goals as goal
 pub returns : goal.returns
 returns c =
     let here = map (named_in 0 main_scope) in
-    named_from_none (c.new-named.result.items ++ here c.new-keys.result) _ _
-    (ap (λ (ns : List Naming). ns ++ here c.new-keys.result) c.new-named.ensures.items ∙ ap here c.new-keys.ensures)
+    named_from_none (c.new-named.result ++ here c.new-keys.result) _ _
+    (ap (λ (ns : List Naming). ns ++ here c.new-keys.result) c.new-named.ensures ∙ ap here c.new-keys.ensures)
     (λ p. ap (list_any p) c.in_ok-name_scope.ensures ∙ c.in_ok-name_term.ensures.named p)

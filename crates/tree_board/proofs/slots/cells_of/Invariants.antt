@@ -1,6 +1,6 @@
 use Rattle.std.proofs.Common.{◌≡◌, map, take}
-use Rattle.spec_tree.specs.declared.cell.Naming.{Naming}
+use Rattle.tree_board.specs.Rows.{cell_by}
 use Rattle.tree_board.proofs.slots.cells_of.Given as goal
 
-abbrev pub invariant-loop-naming : goal.invariant-loop-naming
-invariant-loop-naming l = l.cells.items ≡ map (λ (n : Naming). n.cell) (take l.naming-index l.namings)
+abbrev pub invariant-loop-place : goal.invariant-loop-place
+invariant-loop-place l = l.cells.items ≡ map (cell_by l.keys) (take l.place-index l.places)
