@@ -1,7 +1,6 @@
 -- An event of one runner, compared with the definition's step.
-use Rattle.std.proofs.Common.{OnOk, OnErr, ◌≡◌, inl, inr, ℕ, ℤ, zero, suc, ◌+◌, ◌-◌, ◌<◌, ◌≤◌, true, cond, List, [], ◌∷◌, ◌++◌, Option, Some, None, IfSome, Result, Ok, Err, map, length, get_or, slice_get, set, option_map, refl, sym, ap, subst, ◌∙◌, append_assoc, append-nil, arith}
+use Rattle.std.proofs.Common.{OnOk, OnErr, ◌≡◌, inl, inr, ℕ, ℤ, zero, suc, ◌+◌, ◌-◌, ◌<◌, ◌≤◌, true, List, [], ◌∷◌, ◌++◌, Option, Some, IfSome, Result, Ok, Err, map, length, get_or, set, refl, sym, ap, subst, ◌∙◌, append_assoc, append-nil, arith}
 use Rattle.std.proofs.lemmas.List.{length-map, map-set, get_or-set_same}
-use Rattle.std.proofs.lemmas.Option.{get_or_from_slice_get, slice_get-map}
 use Rattle.std.specs.Global.{Vec}
 use Rattle.base_texts.specs.declared.stop.NoMemory.{NoMemory}
 use Rattle.base_texts.specs.declared.stop.Stop.{Stop}
@@ -18,9 +17,8 @@ use Rattle.spec_tree.specs.declared.term.Term.{Term}
 use Rattle.spec_tree.specs.declared.term.Tree.{Tree}
 use Rattle.spec_world.specs.declared.world.World.{World}
 use Rattle.spec_run.specs.Done.{Call, Done}
-use Rattle.spec_tree.specs.Boards.{slots}
 use Rattle.spec_run.specs.Drivers.{DriverState}
-use Rattle.spec_run.specs.Run.{RunState, Runner, RunnerCall, Stepped, changed_boards, changed_entries, changed_from, had, quench_calls, quench_notes, quenched, quenched_runner, runner_at, runner_calls, told, with_change, with_runner}
+use Rattle.spec_run.specs.Run.{RunState, Runner, RunnerCall, Stepped, changed_boards, changed_entries, changed_from, quench_calls, quench_notes, quenched, quenched_runner, runner_at, runner_calls, told, with_runner}
 use Rattle.run_arena.specs.declared.block.Block.{Block}
 use Rattle.run_arena.specs.declared.nodes.Node.{Node}
 use Rattle.run_arena.specs.Noted.{calls_named}

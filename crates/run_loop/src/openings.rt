@@ -13,7 +13,7 @@ ghost use Rattle.run_loop.specs.Opening.{AreOpening, AreOpeningRuns, IsOpening};
 use crate::runs::{ReadyRunner, Runs};
 use base_texts::{NoMemory, Stop};
 use run_arena::{IndexedWorld, arena_after, arena_of, first_arena_of};
-use run_driver::{Drivers, FactTable, facts_of};
+use run_driver::{Drivers, facts_of};
 use spec_run::JoinFault;
 use spec_tree::Tree;
 use spec_world::World;

@@ -1,4 +1,4 @@
-ghost use Rattle.std.specs.Prelude.{◌≡◌, ◌≤◌, ◌<◌, ◌-◌, ◌^◌, ◌++◌, ◌+◌, ℕ, ℤ, List, IsTrue, OnOk, Some, Option, length, slice_set};
+ghost use Rattle.std.specs.Prelude.{◌≡◌, ◌<◌, ◌-◌, ◌^◌, ◌++◌, ◌+◌, ℕ, ℤ, List, IsTrue, OnOk, Some, Option, length, slice_set};
 ghost use Rattle.spec_script.specs.declared.value.Value.{Value as Content};
 ghost use Rattle.spec_run.specs.Run.{changed_entries, changed_from, had, with_change};
 ghost use Rattle.run_loop.specs.Telling.{with_fact};

@@ -1,4 +1,4 @@
-use Rattle.std.proofs.Common.{◌≡◌, length, ap, refl, rules, ◌∙◌}
+use Rattle.std.proofs.Common.{◌≡◌, length, ap, rules, ◌∙◌}
 use Rattle.spec_run.specs.Run.{root_view}
 use Rattle.run_arena.specs.Stages.{scene_on}
 use Rattle.run_nodes.proofs.AboutHalting.Sounding.{sound_marks}
