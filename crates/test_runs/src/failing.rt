@@ -5,7 +5,6 @@ use crate::halts::FAULT_AT_THE_END;
 use crate::runners::{ONE_FAULTS, WAITS, sixteen, sixteen_trace};
 use base_outside::MemSink;
 use base_texts::NoMemory;
-use spec_program::Exit;
 use std::alloc::Global;
 use std::test::Fail;
 use test_bed::run;
@@ -25,24 +24,21 @@ fn cut(
     Ok(format!(in alloc; "{text}{:?} {}", ending.exit, ending.holds)?)
 }
 
-/// Whether a run leaves anything else than the lines before, `taken` bytes of this line, and the
-/// exit for a failed write, where the write of this number fails after these bytes.
-fn is_wrong(
-    alloc: Global,
-    nodes: &str,
-    lines: &str,
-    before: &str,
-    line: &str,
-    write: u64,
-    taken: usize,
-) -> Result<bool, NoMemory> {
-    let front = line.get(..taken).unwrap_or("?");
-    let want = format!(in alloc; "{before}{front}{:?} false", Exit::Write)?;
-    Ok(cut(alloc, nodes, lines, write, taken as u64)? != want)
+/// How many bytes of the trace stood before the write that failed after `taken` bytes, by what the run wrote: none where
+/// that is no beginning of the trace, or does not end with whole lines and these bytes of the next ones.
+fn bytes_before(trace: &str, text: &str, taken: usize) -> Option<usize> {
+    let before = text.len().checked_sub(taken)?;
+    let lines = trace.get(..before)?;
+    let is_whole = lines.is_empty() || lines.ends_with('\n');
+    if trace.starts_with(text) && is_whole {
+        Some(before)
+    } else {
+        None
+    }
 }
 
-/// The first write whose failure after `taken` bytes leaves anything else than the lines before it
-/// and these bytes of its own line; none where there is no such write.
+/// The first write whose failure after `taken` bytes leaves anything else than whole lines, more with each write, and
+/// these bytes of the next ones; none where each leaves these until the whole trace is written.
 fn first_wrong(
     alloc: Global,
     nodes: &str,
@@ -50,20 +46,22 @@ fn first_wrong(
     trace: &str,
     taken: usize,
 ) -> Result<Option<u64>, NoMemory> {
-    let mut place = 0_usize;
+    let mut least = 0;
     let mut write = 0_u64;
-    for line in trace
-        .split_inclusive('\n')
-        .filter(|line| line.ends_with('\n'))
-    {
+    for _ in trace.split('\n') {
         write = write.saturating_add(1);
-        let before = trace.get(..place).unwrap_or("?");
-        if is_wrong(alloc, nodes, lines, before, line, write, taken)? {
-            return Ok(Some(write));
+        let given = cut(alloc, nodes, lines, write, taken as u64)?;
+        let text = given.as_str();
+        let Some(text) = text.strip_suffix("Write false") else {
+            let is_whole = text.strip_suffix(" false") == Some(trace);
+            return Ok(if is_whole { None } else { Some(write) });
+        };
+        match bytes_before(trace, text, taken) {
+            Some(before) if before >= least => least = before.saturating_add(1),
+            _ => return Ok(Some(write)),
         }
-        place = place.saturating_add(line.len());
     }
-    Ok(None)
+    Ok(Some(write))
 }
 
 /// Runs of which each write fails in turn.
@@ -118,7 +116,7 @@ fn each_write_of_sixteen_runners_may_fail(rt: HostRuntime) -> Result<(), Fail> {
 fn a_write_that_fails_takes_what_it_takes(rt: HostRuntime) -> Result<(), Fail> {
     let alloc = rt.alloc();
     let lines = "fact x 1 / condition A is x == 1 / condition B when x < 2 / tick 1";
-    let text = cut(alloc, "<Sequence><A/><B/></Sequence>", lines, 3, 5)?;
+    let text = cut(alloc, "<Sequence><A/><B/></Sequence>", lines, 2, 25)?;
     let want = "tick 1 at 0\nnode 1 IDLE RUNNING\ncall Write false";
     assert_eq!(rt; text.as_str(), want);
     Ok(())

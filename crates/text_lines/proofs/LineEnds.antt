@@ -1,5 +1,6 @@
 -- Each line that is written ends with a line feed.
-use Rattle.std.proofs.Common.{ℕ, ℤ, List, ◌++◌, codes}
+use Rattle.std.proofs.Common.{ℕ, ℤ, ◌≤◌, List, [], ◌∷◌, ◌++◌, map, length, length-take-le, take, append-nil, codes, arith}
+use Rattle.std.specs.List.{concat}
 use Rattle.std.specs.Prelude.{decimal, if◌then◌else◌}
 use Rattle.std.specs.Fmt.{signed_decimal}
 use Rattle.spec_script.specs.declared.value.Value.{Value}
@@ -10,7 +11,7 @@ use Rattle.spec_run.specs.declared.note.Note.TheVariants as note
 use Rattle.spec_tree.specs.PrintedTree.{indented}
 use Rattle.spec_output.specs.Lines.{LineNames, answer_word, cause_words, cell_at, cell_words, entry_line, fact_line, fact_name, header_line, note_line, status_word, value_words}
 use Rattle.spec_outside.specs.Writes.{AreLines}
-use Rattle.base_outside.proofs.Writings.{lines-after, lines-feed}
+use Rattle.base_outside.proofs.Writings.{lines-after, lines-equal, lines-feed}
 
 -- words and a line feed
 pub line : (words : List ℕ) → AreLines (words ++ codes "\n")
@@ -35,6 +36,17 @@ note_lines names (note.Root runner answer) = line (codes "root " ++ decimal runn
 note_lines names (note.Faulted runner uid cause) =
     line (codes "fault " ++ decimal runner ++ codes " " ++ decimal uid ++ codes " " ++ cause_words names uid cause)
 note_lines names (note.Quenched runner uid) = line (codes "quench " ++ decimal runner ++ codes " " ++ decimal uid)
+
+-- the lines of one or more notes
+lines_of_notes : (names : LineNames) (notes : List Note) → 1 ≤ length notes → AreLines (concat (map (note_line names) notes))
+lines_of_notes names [] some = absurd (omega (arith, some))
+lines_of_notes names (n ∷ []) some = lines-equal _ _ (append-nil (note_line names n)) (note_lines names n)
+lines_of_notes names (n ∷ m ∷ ms) some =
+    lines-after (note_line names n) (concat (map (note_line names) (m ∷ ms))) (lines_of_notes names (m ∷ ms) (omega arith))
+
+pub lines_of_some :
+    (names : LineNames) (notes : List Note) (count : ℕ) → 1 ≤ count → count ≤ length notes → AreLines (concat (map (note_line names) (take count notes)))
+lines_of_some names notes count some within = lines_of_notes names (take count notes) (omega (arith, length-take-le count notes within))
 
 pub fact_lines : (names : LineNames) (fact : ℕ × ℤ) → AreLines (fact_line names fact)
 fact_lines names fact = line (codes "fact " ++ fact_name names.facts fact.0 ++ codes " " ++ signed_decimal fact.1)

@@ -17,14 +17,15 @@ front_and_some new front piece start len at within written =
     ∙ ap (λ (n : ℕ). take (n + len) (front ++ piece)) (sym at)
     ∙ take-append-add front piece len
 
--- after the word the whole room of a label was copied
+-- after what was there the word was copied, and after it the whole room of a label
 pub labelled :
-    (new old word room label : List ℕ) (len n : ℕ) → length word ≡ 4 → take (0 + length word) old ≡ word → len ≤ length room →
-    take (4 + length room) new ≡ take 4 old ++ room → take len room ≡ label → label ≡ 32 ∷ decimal n →
-    take (4 + len) new ≡ word ++ 32 ∷ [] ++ decimal n
-labelled new old word room label len n four first within written text is =
-    let place : 0 + length word ≡ 4 = omega arith in
-    let front = ap (λ (k : ℕ). take k old) (sym place) ∙ first in
-    front_and_some new word room 4 len four within (written ∙ ap (λ (z : List ℕ). z ++ room) front)
-    ∙ ap (λ (z : List ℕ). word ++ z) (text ∙ is)
-    ∙ sym (append_assoc word (32 ∷ []) (decimal n))
+    (new old before word room label : List ℕ) (start len n : ℕ) → length before ≡ start → length word ≡ 4 → take (start + length word) old ≡ before ++ word →
+    len ≤ length room → take (start + 4 + length room) new ≡ take (start + 4) old ++ room → take len room ≡ label → label ≡ 32 ∷ decimal n →
+    take (start + 4 + len) new ≡ before ++ (word ++ 32 ∷ [] ++ decimal n)
+labelled new old before word room label start len n there four first within written text is =
+    let place : start + length word ≡ start + 4 = omega (arith, four) in
+    let front = ap (λ k. take k old) (sym place) ∙ first in
+    front_and_some new (before ++ word) room (start + 4) len (omega (arith, length-append before word)) within (written ∙ ap (λ (z : List ℕ). z ++ room) front)
+    ∙ ap (λ (z : List ℕ). (before ++ word) ++ z) (text ∙ is)
+    ∙ append_assoc before word (32 ∷ decimal n)
+    ∙ ap (λ (z : List ℕ). before ++ z) (sym (append_assoc word (32 ∷ []) (decimal n)))

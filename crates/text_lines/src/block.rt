@@ -7,11 +7,10 @@ ghost use Rattle.spec_outside.specs.Appending.{Appended, AppendedPrefix};
 ghost use Rattle.spec_outside.specs.Counts.{Rose};
 ghost use Rattle.spec_outside.specs.Writes.{AreLines, Writes};
 
-use crate::label::Labels;
-use crate::line::{put_entry, put_fact, put_header, put_long, put_short};
+use crate::line::{put_entry, put_fact, put_header, put_long};
 use crate::names::Names;
 use crate::put::empty_line;
-use crate::short::ShortLine;
+use crate::short::ShortLines;
 use crate::stop::TextStop;
 use base_outside::Sink;
 use run_arena::Block;
@@ -19,10 +18,9 @@ use spec_run::{Header, Note};
 use spec_script::Value;
 use std::alloc::Global;
 
-/// Writes the lines of the block, each by one write: its event, what happened, and the facts and
-/// the entries that changed. After a stop a prefix of their bytes was written.
-/// `TextStop::WriteFault` comes only where the sink's count of failures rose in this call, and
-/// `TextStop::NoMemory` for want of memory (out of memory).
+/// Writes the lines of the block: its event, what happened, and the facts and the entries that changed. After a stop a
+/// prefix of their bytes was written. `TextStop::WriteFault` comes only where the sink's count of failures rose in this
+/// call, and `TextStop::NoMemory` for want of memory (out of memory).
 #[tactic(auto, using(base_outside::proofs::Appends::appending, base_outside::proofs::Writings::writing))]
 pub fn write_block<K: Sink>(
     alloc: Global,
@@ -95,8 +93,8 @@ pub fn write_line<K: Sink>(out: &mut K, line: &[u8]) -> Result<(), TextStop>
     Ok(())
 }
 
-/// Writes the lines of the notes. The long ones all use the room of `line`. After a stop a prefix
-/// of the bytes was written.
+/// Writes the lines of the notes, those that are short many at a time. The long ones all use the room of `line`. After a
+/// stop a prefix of the bytes was written.
 #[tactic(auto, using(base_outside::proofs::Appends::appending, base_outside::proofs::Writings::writing))]
 pub fn write_notes<K: Sink>(
     line: &mut Vec<u8>,
@@ -111,35 +109,20 @@ pub fn write_notes<K: Sink>(
     ensures count { K.faults out.old ≤ K.faults out.new }
     ensures writes { Writes K.write_gives result out.old out.new }
 {
-    let mut short = ShortLine::new();
+    let mut lines = ShortLines::new();
     let labels = names.labels();
-    for note in notes {
-        write_note(&mut short, line, out, note, names, &labels)?;
+    let mut at = 0;
+    while at < notes.len() {
+        let count = lines.gather(&notes[at..], &labels);
+        if count == 0 {
+            write_long(line, out, &notes[at], names)?;
+            at += 1;
+        } else {
+            write_line(out, lines.list())?;
+            at += count;
+        }
     }
     Ok(())
-}
-
-/// Writes the line of the note. After a stop a prefix of it was written.
-#[tactic(auto, using(base_outside::proofs::Appends::appending, base_outside::proofs::Writings::writing))]
-#[inline(always)]
-fn write_note<K: Sink>(
-    short: &mut ShortLine,
-    line: &mut Vec<u8>,
-    out: &mut K,
-    note: &Note,
-    names: &Names,
-    labels: &Labels,
-) -> Result<(), TextStop>
-    ensures whole { OnOk result (Appended (K.written out.old) (K.written out.new) (note_line names.now note.now)) }
-    ensures prefix { AppendedPrefix (K.written out.old) (K.written out.new) (note_line names.now note.now) }
-    ensures failed { IsErrOf result TextStop.WriteFault → Rose (K.faults out.old) (K.faults out.new) }
-    ensures count { K.faults out.old ≤ K.faults out.new }
-    ensures writes { Writes K.write_gives result out.old out.new }
-{
-    if put_short(short, note, labels) {
-        return write_line(out, short.list());
-    }
-    write_long(line, out, note, names)
 }
 
 /// Writes the line of a note that is long, as that of a fault. It is a function of its own, since

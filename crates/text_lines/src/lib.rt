@@ -1,4 +1,4 @@
-//! Writes the lines of a trace: what each event gave, in text, line by line to a sink.
+//! Writes the lines of a trace: what each event gave, in text, as whole lines to a sink.
 #![tactic(auto)]
 
 mod block;

@@ -1,11 +1,11 @@
-ghost use Rattle.std.specs.Prelude.{◌≡◌, ◌++◌, if◌then◌else◌, OnOk, IsTrue, IsFalse, codes, decimal};
+ghost use Rattle.std.specs.Prelude.{◌≡◌, ◌++◌, ◌≤◌, if◌then◌else◌, OnOk, IsTrue, IsFalse, codes, decimal, length};
 ghost use Rattle.spec_output.specs.Lines.{LineNames, cause_words, entry_line, fact_line, header_line, note_line};
 ghost use Rattle.text_lines.specs.Notes.{is_long};
 
 use crate::label::Labels;
 use crate::names::Names;
 use crate::put::{put_bytes, put_number, put_signed};
-use crate::short::ShortLine;
+use crate::short::ShortLines;
 use crate::tail::{answer_tail, change_tail, halted_tail, run_tail, start_tail};
 use crate::word::{put_cause, put_value};
 use base_texts::NoMemory;
@@ -69,36 +69,41 @@ fn put_runner_event(out: &mut Vec<u8>, event: &[u8], runner: u8, at: u64) -> Res
     put_bytes(out, b"\n")
 }
 
-/// Makes the line that of the note, and says whether it did: long lines are made by `put_long`.
+/// Adds the line of the note where it is short and there is room for it, and says whether it did: long lines are made by
+/// `put_long`.
 #[inline(always)]
-pub fn put_short(line: &mut ShortLine, note: &Note, labels: &Labels) -> bool
-    ensures text { IsTrue result → (names : LineNames) → line.new ≡ note_line names note.now }
-    ensures long { IsFalse result → IsTrue (is_long note.now) }
+pub fn put_short(lines: &mut ShortLines, note: &Note, labels: &Labels) -> bool
+    ensures text { IsTrue result → (names : LineNames) → lines.new ≡ lines.old ++ note_line names note.now }
+    ensures same { IsFalse result → lines.new ≡ lines.old }
+    ensures long { IsFalse result → length lines.old ≤ 448 → IsTrue (is_long note.now) }
 {
+    if lines.is_full() {
+        return false;
+    }
     match *note {
         Note::Changed { uid, old, new } => {
-            line.begin(*b"node", uid, labels);
-            line.end(change_tail(old, new));
+            lines.begin(*b"node", uid, labels);
+            lines.end(change_tail(old, new));
             true
         }
         Note::Started { uid, answer } => {
-            line.begin(*b"call", uid, labels);
-            line.end(start_tail(answer));
+            lines.begin(*b"call", uid, labels);
+            lines.end(start_tail(answer));
             true
         }
         Note::Ran { uid, answer } => {
-            line.begin(*b"call", uid, labels);
-            line.end(run_tail(answer));
+            lines.begin(*b"call", uid, labels);
+            lines.end(run_tail(answer));
             true
         }
         Note::Halted { uid } => {
-            line.begin(*b"call", uid, labels);
-            line.end(halted_tail());
+            lines.begin(*b"call", uid, labels);
+            lines.end(halted_tail());
             true
         }
         Note::Root { runner, answer } => {
-            line.begin(*b"root", u32::from(runner), labels);
-            line.end(answer_tail(answer));
+            lines.begin(*b"root", u32::from(runner), labels);
+            lines.end(answer_tail(answer));
             true
         }
         Note::Faulted { .. } => false,

@@ -1,38 +1,46 @@
-ghost use Rattle.std.specs.Prelude.{◌≡◌, ◌+◌, ◌≤◌, [], ◌++◌, codes, decimal, length, take};
+ghost use Rattle.std.specs.Prelude.{◌≡◌, ◌+◌, ◌<◌, ◌≤◌, [], ◌++◌, IsTrue, IsFalse, codes, decimal, get_or, length, map, take};
+ghost use Rattle.std.specs.List.{concat};
+ghost use Rattle.spec_run.specs.declared.note.Note.{Note as Noted};
+ghost use Rattle.spec_output.specs.Lines.{LineNames, note_line};
+ghost use Rattle.text_lines.specs.Notes.{is_long};
 ghost use Rattle.text_lines.specs.Tails.{tail_text};
 
 use crate::label::Labels;
+use crate::line::put_short;
 use crate::tail::Tail;
 use itoa::Buffer;
+use spec_run::Note;
 use std::marker::Model;
 
-/// The room of a short line: for a word, a number and the room of a tail.
-const ROOM: usize = 64;
+/// The room of short lines that are written together: few enough bytes that they are quickly cleared.
+const ROOM: usize = 512;
+/// The room of one short line: of a word, a number and the room of a tail.
+const LINE: usize = 64;
 
-/// A line that is short, as most are. It lies in an array and needs no memory of its own. Contracts
-/// see its bytes.
+/// Lines that are short, as most are, one after another. They lie in an array and need no memory of their own.
+/// Contracts see their bytes.
 #[derive(Drop)]
-pub struct ShortLine {
+pub struct ShortLines {
     bytes: [u8; ROOM],
     len: usize,
 }
 
-impl Model for ShortLine {
+impl Model for ShortLines {
     ghost use Rattle.std.specs.Prelude.{ℕ, List, ◌≤◌, take};
 
     ghost Value = { List ℕ };
 
-    ghost view = { λ line. take line.len line.bytes };
+    ghost view = { λ lines. take lines.len lines.bytes };
 
-    ghost invariant = { λ line. line.len ≤ 64 };
+    ghost invariant = { λ lines. lines.len ≤ 512 };
 }
 
-impl ShortLine {
-    /// A line that has no bytes yet.
-    pub fn new() -> ShortLine
+impl ShortLines {
+    /// No lines.
+    pub fn new() -> ShortLines
         ensures { result ≡ [] }
     {
-        ShortLine {
+        ShortLines {
             bytes: [0; ROOM],
             len: 0,
         }
@@ -46,45 +54,77 @@ impl ShortLine {
         &self.bytes[..self.len]
     }
 
-    /// Makes the line a word of four letters, a blank and a number. The room of a label is copied
-    /// whole, so that the copy is one load and one store.
+    /// Whether there may be no room for one more line.
+    #[inline(always)]
+    pub fn is_full(&self) -> bool
+        ensures room { IsFalse result → length self.now ≤ 448 }
+        ensures full { IsTrue result → 448 < length self.now }
+    {
+        self.len > ROOM - LINE
+    }
+
+    /// Puts the lines of the first notes here in place of what was here, up to a note whose line is long, or as many as
+    /// there is room for. The answer is their number: 0 only where the first line is long.
+    #[inline(always)]
+    pub fn gather(&mut self, notes: &[Note], labels: &Labels) -> usize
+        requires { 1 ≤ length notes.now }
+        ensures within { result ≤ length notes.now }
+        ensures text { (names : LineNames) → self.new ≡ concat (map (note_line names) (take result notes.now)) }
+        ensures long { result ≡ 0 → (n : Noted) → IsTrue (is_long (get_or notes.now 0 n)) }
+    {
+        self.len = 0;
+        let mut count = 0;
+        for note in notes {
+            if !put_short(self, note, labels) {
+                return count;
+            }
+            count += 1;
+        }
+        count
+    }
+
+    /// Adds a word of four letters, a blank and a number. The room of a label is copied whole, so that the copy is one load
+    /// and one store.
     #[inline(always)]
     pub fn begin(&mut self, word: [u8; 4], number: u32, labels: &Labels)
-        ensures text { self.new ≡ word ++ codes " " ++ decimal number }
-        ensures room { length self.new ≤ 40 }
+        requires { length self.old ≤ 448 }
+        ensures text { self.new ≡ self.old ++ (word ++ codes " " ++ decimal number) }
+        ensures room { length self.new ≤ 488 }
     {
         match labels.get(number) {
             Some(label) => {
                 let (text, len) = label.room();
-                copy_in(&mut self.bytes, 0, &word);
-                copy_in(&mut self.bytes, 4, &text);
-                self.len = 4 + len;
+                let start = self.len;
+                copy_in(&mut self.bytes, start, &word);
+                copy_in(&mut self.bytes, start + 4, &text);
+                self.len = start + 4 + len;
             }
             None => self.begin_apart(word, number),
         }
     }
 
-    /// Makes the line such a word, a blank and a number that has no label. It is a function of its
-    /// own, since few lines have such a number: only those of a root whose runner's number is above
-    /// the number of nodes.
+    /// Adds such a word, a blank and a number that has no label. It is a function of its own, since few lines have such a
+    /// number: only those of a root whose runner's number is above the number of nodes.
     #[cold]
     #[inline(never)]
     fn begin_apart(&mut self, word: [u8; 4], number: u32)
-        ensures text { self.new ≡ word ++ codes " " ++ decimal number }
-        ensures room { length self.new ≤ 40 }
+        requires { length self.old ≤ 448 }
+        ensures text { self.new ≡ self.old ++ (word ++ codes " " ++ decimal number) }
+        ensures room { length self.new ≤ 488 }
     {
-        copy_in(&mut self.bytes, 0, &word);
+        let start = self.len;
+        copy_in(&mut self.bytes, start, &word);
         let mut buffer = Buffer::new();
         let digits = buffer.format(number).as_bytes();
-        copy_in(&mut self.bytes, 4, b" ");
-        copy_in(&mut self.bytes, 5, digits);
-        self.len = 5 + digits.len();
+        copy_in(&mut self.bytes, start + 4, b" ");
+        copy_in(&mut self.bytes, start + 5, digits);
+        self.len = start + 5 + digits.len();
     }
 
     /// Adds the tail. The unused bytes of its room are after the end of the line.
     #[inline(always)]
     pub fn end(&mut self, tail: &Tail)
-        requires short { length self.old ≤ 40 }
+        requires room { length self.old ≤ 488 }
         requires within { tail.now.len ≤ 24 }
         ensures { self.new ≡ self.old ++ tail_text tail.now }
     {
