@@ -6,7 +6,8 @@ use base_texts::Stop;
 use spec_serve::Request;
 use spec_world_file::WorldKind;
 use std::alloc::Global;
-use world_draft::{Reading, content, cut, is};
+use world_draft::Reading;
+use world_lines::{content, cut, is};
 use world_reader::read_text;
 
 /// Whether a line of a host may begin with this word: those of moments and events.

@@ -11,7 +11,7 @@ use Rattle.spec_world_file.specs.WorldFile.{after_backslash, after_word, after_x
 use Rattle.spec_expect.specs.declared.place.Pick.{Pick}
 use Rattle.spec_expect.specs.declared.place.Pick.TheVariants.{ById}
 use Rattle.spec_expect.specs.ExpectFile.{pick_at_front, pick_quoted, quoted_pick}
-use Rattle.world_draft.proofs.AboutLines.Ascii.{line-after_word}
+use Rattle.world_lines.proofs.Ascii.{line-after_word}
 
 abbrev IsLine : List ℕ → Type 0
 IsLine text = list_all is_line_byte text ≡ true

@@ -7,7 +7,7 @@ ghost use Rattle.spec_expect.specs.ExpectFile.{answer_in, end_in, moment_of, run
 use base_texts::Stop;
 use spec_expect::ExpectKind;
 use spec_run::Answer;
-use world_draft::{is, ms, one_of};
+use world_lines::{is, ms, one_of};
 
 /// The answer that a word names. None where it names none.
 pub fn answer_in(word: &[u8]) -> Option<Answer>

@@ -15,7 +15,7 @@ use spec_expect::{ExpectKind, Expectation, Pick};
 use spec_script::Expr;
 use spec_world::Fact;
 use std::alloc::Global;
-use world_draft::{cut, is, is_line, numeric};
+use world_lines::{cut, is, is_line, numeric};
 use world_reader::comparison;
 
 /// The expression that a text is. The fault is `BadLine`, where it is none.

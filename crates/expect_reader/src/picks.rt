@@ -6,7 +6,7 @@ ghost use Rattle.spec_expect.specs.ExpectFile.{is_pattern_byte, pick_at_front, p
 use base_texts::{Name, NoMemory};
 use spec_expect::Pick;
 use std::alloc::Global;
-use world_draft::{after_gap, cut, is_apart, is_name, name_of, text_to_quote};
+use world_lines::{after_gap, cut, is_apart, is_name, name_of, text_to_quote};
 
 /// Whether a byte makes a quoted text a pattern.
 fn is_pattern_byte(byte: u8) -> bool

@@ -12,7 +12,7 @@ use spec_expect::{ExpectFault, ExpectKind, Expected};
 use spec_tree::Tree;
 use spec_world::World;
 use std::alloc::Global;
-use world_draft::{content, is, is_ignored, parts, trimmed, without_rest};
+use world_lines::{content, is, is_ignored, parts, trimmed, without_rest};
 
 /// The most expectations of a file.
 const MOST_EXPECTATIONS: usize = 1000;

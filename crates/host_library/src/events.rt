@@ -18,7 +18,7 @@ use base_texts::{Items, NoMemory, Txt};
 use spec_script::Value;
 use spec_world::{Telling, ToldOut, What};
 use std::alloc::Global;
-use world_draft::{is_name, name_of};
+use world_lines::{is_name, name_of};
 
 /// The number of the status SUCCESS.
 const SUCCESS: u32 = 2;

@@ -11,7 +11,7 @@ use spec_run::JoinFault;
 use spec_script::Value;
 use spec_session::Misuse;
 use spec_world::{Telling, ToldOut};
-use world_draft::is_name;
+use world_lines::is_name;
 
 /// What is wrong, where this does not hold.
 fn unless(fits: bool, misuse: Misuse) -> Option<Misuse>

@@ -1,5 +1,4 @@
 pub mod Drafts
-pub mod Lines
 pub mod Readings
 pub mod Rounds
 pub mod Rows

@@ -1,13 +1,13 @@
 ghost use Rattle.std.specs.Prelude.{◌≡◌, ◌≤◌, ◌+◌, ◌*◌, ◌++◌, OnOk, length, map};
 ghost use Rattle.spec_world_file.specs.WorldFile.{rounds};
-ghost use Rattle.world_draft.specs.Lines.Written.{seen_part};
+ghost use Rattle.world_lines.specs.Written.{seen_part};
 ghost use Rattle.world_draft.specs.Rounds.{PartSays, PartsSay, what_of};
 
-use crate::lines::WrittenPart;
 use base_texts::{NoMemory, Stop};
 use spec_world::{Event, What};
 use spec_world_file::WorldKind;
 use std::alloc::Global;
+use world_lines::WrittenPart;
 
 /// What happens to a runner in each round of a line of rounds.
 #[derive(Clone, Copy)]

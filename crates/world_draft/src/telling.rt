@@ -2,10 +2,9 @@ ghost use Rattle.std.specs.Prelude.{◌≡◌, ◌||◌, IfOk, [], length, map, 
 ghost use Rattle.std.specs.List.{list_all, list_any};
 ghost use Rattle.spec_world_file.specs.WorldFile as file;
 ghost use Rattle.spec_world_file.specs.WorldFile.{repeats};
-ghost use Rattle.world_draft.specs.Lines.Written.{seen_out, seen_value};
+ghost use Rattle.world_lines.specs.Written.{seen_out, seen_value};
 ghost use Rattle.world_draft.specs.Tellings.{OutsSay};
 
-use crate::lines::{Written, WrittenOut};
 use base_tables::{MOST_OUTPUTS, MOST_TEXT_BYTES};
 use base_texts::{Items, NoMemory, Stop, Txt};
 use indexmap::IndexSet;
@@ -13,6 +12,7 @@ use spec_script::Value;
 use spec_world::ToldOut;
 use spec_world_file::WorldKind;
 use std::alloc::Global;
+use world_lines::{Written, WrittenOut};
 
 /// Whether the value is no number outside 64 bits.
 fn is_small(value: &Written) -> bool

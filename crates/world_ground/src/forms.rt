@@ -8,7 +8,7 @@ use crate::sort::sort_in;
 use base_texts::Stop;
 use spec_world_file::GroundFault;
 use std::alloc::Global;
-use world_draft::{content, cut, is, is_ignored, is_line, is_name, trimmed, words};
+use world_lines::{content, cut, is, is_ignored, is_line, is_name, trimmed, words};
 
 /// Reads the line of this number: adds what it says, or answers its first fault. `NoMemory` (want of memory, that is, out
 /// of memory), here and below, where an allocation fails.

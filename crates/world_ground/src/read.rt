@@ -16,7 +16,7 @@ use base_tables::MOST_FILE_BYTES;
 use base_texts::Stop;
 use spec_world_file::GroundFault;
 use std::alloc::Global;
-use world_draft::{is, parts, trimmed, without_rest};
+use world_lines::{is, parts, trimmed, without_rest};
 
 /// The world script that a ground file stands for, or the first fault of the file: its first faulty line, else
 /// `Unended`, else `TooManyGround`, for which no text is made. `NoMemory` (want of memory, that is, out of memory), here

@@ -7,7 +7,7 @@ ghost use Rattle.spec_world_file.specs.WorldFile.{repeats};
 use base_texts::{Items, Name, NoMemory};
 use spec_world_file::Sort;
 use std::alloc::Global;
-use world_draft::{is_name, name_of, names_of};
+use world_lines::{is_name, name_of, names_of};
 
 /// The most values of a sort.
 const MOST_VALUES: usize = 16;

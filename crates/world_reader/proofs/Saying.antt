@@ -15,7 +15,7 @@ use Rattle.spec_world_file.specs.declared.world_fault.WorldKind.TheVariants.{Hea
 use Rattle.spec_world_file.specs.WorldFile.{Line, EveryLine, Part, TimedLine, TimedByLine, ReplayLine, AfterForm, AfterLine, Reading, following, ends_after, is_ms, is_runner, is_step, runner_in, runners_of, what_in, with_rounds, is_group, number_line, outcomes_in, placed, replay_line, timed_line, told_line, with_action, word, ReadsNumeric, SaysOf, closed, ranged, with_head}
 use Rattle.spec_tree.specs.Numbers.{is_canonical, number_in}
 use Rattle.spec_world_file.specs.WorldFile as file
-use Rattle.world_draft.specs.Lines.Ranges.{Passes}
+use Rattle.world_lines.specs.Ranges.{Passes}
 use Rattle.world_draft.specs.Drafts.{DraftSays, row_of}
 use Rattle.world_draft.specs.Readings.{Leaves}
 use Rattle.world_draft.specs.Rounds.{PartsSay}

@@ -14,7 +14,8 @@ use spec_script::{Cmp, Expr};
 use spec_world::{Row, RowSort};
 use spec_world_file::WorldKind;
 use std::alloc::{AllocError, Global};
-use world_draft::{Reading, cut, head_in, int, is, is_name, ms, name_of, numeric};
+use world_draft::Reading;
+use world_lines::{cut, head_in, int, is, is_name, ms, name_of, numeric};
 
 /// The comparison that the word names. None where it names none.
 pub fn comparison(word: &[u8]) -> Option<Cmp>

@@ -8,7 +8,8 @@ use base_texts::Stop;
 use spec_world::{How, Out, Set};
 use spec_world_file::WorldKind;
 use std::alloc::Global;
-use world_draft::{Reading, cut, int, is, is_name, name_of, numeric};
+use world_draft::Reading;
+use world_lines::{cut, int, is, is_name, name_of, numeric};
 
 /// Reads `fails EXPR`, from after `fails`; so below.
 pub fn read_fails(alloc: Global, reading: &mut Reading, text: &[u8]) -> Result<(), Stop<WorldKind>>

@@ -7,7 +7,8 @@ use base_texts::Stop;
 use spec_world::{Fact, What};
 use spec_world_file::WorldKind;
 use std::alloc::Global;
-use world_draft::{Reading, cut, int, is_name, ms, name_of, one_of};
+use world_draft::Reading;
+use world_lines::{cut, int, is_name, ms, name_of, one_of};
 
 /// Reads `fact NAME INT`, from after `fact`; so below.
 pub fn read_fact(alloc: Global, reading: &mut Reading, text: &[u8]) -> Result<(), Stop<WorldKind>>

@@ -13,7 +13,8 @@ use crate::tellings::read_tell;
 use base_texts::Stop;
 use spec_world_file::WorldKind;
 use std::alloc::Global;
-use world_draft::{Reading, content, cut, is, is_ignored, is_line};
+use world_draft::Reading;
+use world_lines::{content, cut, is, is_ignored, is_line};
 
 /// Reads the text of a line: adds what it says, or answers what is wrong with it. `NoMemory` (want of memory, that is,
 /// out of memory), here and in all readers of lines, where an allocation fails.

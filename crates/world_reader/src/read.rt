@@ -11,7 +11,8 @@ use base_texts::{NoMemory, Stop};
 use spec_world::World;
 use spec_world_file::{WorldFault, WorldKind};
 use std::alloc::Global;
-use world_draft::{Reading, is, parts, trimmed, without_rest};
+use world_draft::Reading;
+use world_lines::{is, parts, trimmed, without_rest};
 
 /// The world that a world script describes, or its first faulty line. The world is valid.
 pub fn read_world(alloc: Global, bytes: &[u8]) -> Result<World, Stop<WorldFault>>

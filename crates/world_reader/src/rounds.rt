@@ -2,14 +2,15 @@ ghost use Rattle.std.specs.Prelude.{◌≡◌, map, true};
 ghost use Rattle.std.specs.Str.Parse.{signed_digits_value};
 ghost use Rattle.spec_tree.specs.Numbers as numbers;
 ghost use Rattle.spec_world_file.specs.WorldFile.{AfterForm, AfterLine, EveryLine, every_line};
-ghost use Rattle.world_draft.specs.Lines.Written.{seen_part};
+ghost use Rattle.world_lines.specs.Written.{seen_part};
 ghost use Rattle.world_draft.specs.Readings.{Leaves};
 
 use base_tables::is_canonical;
 use base_texts::Stop;
 use spec_world_file::WorldKind;
 use std::alloc::Global;
-use world_draft::{Reading, WrittenPart, cut, is, ms, parts_in, parts_within, step};
+use world_draft::{Reading, parts_within};
+use world_lines::{WrittenPart, cut, is, ms, parts_in, step};
 
 /// Reads `every MS until MS` and one part or more, each `tick R` or `halt R`, from after `every`.
 pub fn read_every(alloc: Global, reading: &mut Reading, text: &[u8]) -> Result<(), Stop<WorldKind>>

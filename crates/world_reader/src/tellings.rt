@@ -9,7 +9,8 @@ use base_texts::{Items, Stop};
 use spec_world::{Telling, ToldOut, What};
 use spec_world_file::WorldKind;
 use std::alloc::Global;
-use world_draft::{Reading, cut, is, one_of, outs_in, told_outs, uid};
+use world_draft::{Reading, told_outs};
+use world_lines::{cut, is, one_of, outs_in, uid};
 
 /// Whether the word says SUCCESS or FAILURE. None where it says neither.
 fn success(word: &[u8]) -> Option<bool>

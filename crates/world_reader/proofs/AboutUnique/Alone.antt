@@ -8,7 +8,7 @@ use Rattle.spec_world.specs.declared.world.World.{World}
 use Rattle.spec_world_file.specs.declared.world_fault.WorldFault.{WorldFault}
 use Rattle.spec_world_file.specs.declared.world_fault.WorldKind.{WorldKind}
 use Rattle.spec_world_file.specs.WorldFile.{Line, FactLine, IsLine, WhenLine, TimedLine, TimedByLine, ReplayLine, GateLine, SensedLine, ToldLine, FailsLine, NeedsLine, SetsLine, OutLine, NameLine, GoalLine, RunnersLine, AtLine, TickLine, HaltLine, SetLine, TellLine, EveryLine, AfterForm, AfterLine, AfterLines, AfterText, GoesOn, LinesMake, LinesRead, Reading, ReadsNumeric, ReadsOuts, ReadsTold, ReadsWorld, SaysOf, SaysOfOuts, by_expr, by_outs, content, is_ignored, line_in, lines_in, no_header, nothing_read, without_gap, without_return, world_after}
-use Rattle.world_draft.proofs.AboutLines.Telling.{never_begins, one_out}
+use Rattle.world_lines.proofs.Telling.{never_begins, one_out}
 
 one_numeric : (text : List ℕ) (a b : Option Expr) → ReadsNumeric text a → ReadsNumeric text b → a ≡ b
 one_numeric text None None h k = refl

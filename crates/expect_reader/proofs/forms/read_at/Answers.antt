@@ -10,7 +10,7 @@ use Rattle.spec_expect.specs.declared.expect_fault.ExpectKind.{ExpectKind}
 use Rattle.spec_expect.specs.declared.expectation.Expectation.{Expectation}
 use Rattle.spec_expect.specs.declared.expectation.Expectation.TheVariants.{At}
 use Rattle.spec_expect.specs.ExpectFile.{AtLine, at_line, moment_of, over_facts}
-use Rattle.world_draft.proofs.AboutLines.Ascii.{line_once}
+use Rattle.world_lines.proofs.Ascii.{line_once}
 use Rattle.expect_reader.specs.Reading.{subject_seen}
 use Rattle.expect_reader.proofs.Saying.{err_gives, given_by, number_is, of_form, then_gives}
 use Rattle.expect_reader.proofs.forms.read_at.Goals as goal

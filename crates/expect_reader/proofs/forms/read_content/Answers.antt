@@ -1,7 +1,7 @@
 use Rattle.std.proofs.Common.{◌≡◌, rules, true}
 use Rattle.std.specs.List.{list_all}
 use Rattle.spec_world_file.specs.WorldFile.{is_line_byte}
-use Rattle.world_draft.proofs.AboutLines.Ascii.{line_once}
+use Rattle.world_lines.proofs.Ascii.{line_once}
 use Rattle.expect_reader.proofs.forms.read_content.Goals as goal
 
 pub read_by_word-requires : goal.read_by_word-requires

@@ -8,7 +8,7 @@ use Rattle.spec_expect.specs.declared.expect_fault.ExpectKind.{ExpectKind}
 use Rattle.spec_expect.specs.declared.expectation.Expectation.{Expectation}
 use Rattle.spec_expect.specs.declared.expectation.Expectation.TheVariants.{StartsOnly}
 use Rattle.spec_expect.specs.ExpectFile.{StartsOnlyLine, leaves_in, only_line, over_facts}
-use Rattle.world_draft.proofs.AboutLines.Ascii.{line_once}
+use Rattle.world_lines.proofs.Ascii.{line_once}
 use Rattle.expect_reader.specs.Reading.{subject_seen}
 use Rattle.expect_reader.proofs.Saying.{err_gives, given_by, of_form, only_is, then_gives}
 use Rattle.expect_reader.proofs.forms.read_only.Goals as goal

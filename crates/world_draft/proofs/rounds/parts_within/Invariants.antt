@@ -1,7 +1,7 @@
 use Rattle.std.proofs.Common.{◌≡◌, drop, map, take}
 use Rattle.std.specs.List.{list_all}
 use Rattle.spec_world_file.specs.WorldFile as file
-use Rattle.world_draft.specs.Lines.Written.{seen_part}
+use Rattle.world_lines.specs.Written.{seen_part}
 use Rattle.world_draft.specs.Rounds.{is_within, what_of}
 use Rattle.world_draft.proofs.rounds.parts_within.Given as goal
 

@@ -1,5 +1,5 @@
 use Rattle.std.proofs.Common.{◌≡◌, map, take}
-use Rattle.world_draft.specs.Lines.Written.{seen_out}
+use Rattle.world_lines.specs.Written.{seen_out}
 use Rattle.world_draft.proofs.telling.told.Given as goal
 
 abbrev pub invariant-loop-out : goal.invariant-loop-out

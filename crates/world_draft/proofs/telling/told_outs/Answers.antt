@@ -5,10 +5,10 @@ use Rattle.std.proofs.lemmas.List.{length-map}
 use Rattle.std.proofs.lemmas.List.Folds.{list_all-map}
 use Rattle.std.proofs.lemmas.Simd.{map-map}
 use Rattle.spec_world_file.specs.WorldFile.{is_long, is_small, repeats}
-use Rattle.world_draft.specs.declared.lines.values.WrittenOut.{WrittenOut}
-use Rattle.world_draft.specs.Lines.Written.{seen_out}
+use Rattle.world_lines.specs.declared.values.WrittenOut.{WrittenOut}
+use Rattle.world_lines.specs.Written.{seen_out}
 use Rattle.world_draft.proofs.Named.{any-map}
-use Rattle.world_draft.proofs.AboutLines.Telling.{counted_said, double_said, range_said}
+use Rattle.world_draft.proofs.Saying.{counted_said, double_said, range_said}
 use Rattle.world_draft.proofs.telling.told_outs.Goals as goal
 
 -- how many outputs are written, and whether one is too long

@@ -1,4 +1,4 @@
-use Rattle.world_draft.proofs.AboutLines.Ascii.{line_once}
+use Rattle.world_lines.proofs.Ascii.{line_once}
 use Rattle.world_reader.proofs.actions.read_condition.Goals as goal
 
 pub read_when-requires : goal.read_when-requires

@@ -4,7 +4,7 @@ use Rattle.std.specs.Str.Parse.{signed_digits_value}
 use Rattle.spec_world_file.specs.WorldFile.{Head, TimedLine, number_line, with_action}
 use Rattle.spec_world.specs.declared.world.RowSort.TheVariants.{Timed}
 use Rattle.world_draft.specs.Drafts.{row_of}
-use Rattle.world_draft.specs.Lines.Heads.{seen_head}
+use Rattle.world_lines.specs.Heads.{seen_head}
 use Rattle.world_reader.proofs.Saying.{adds, lasts, of_head, refuses, timed_is}
 use Rattle.world_reader.proofs.actions.read_fixed.Goals as goal
 

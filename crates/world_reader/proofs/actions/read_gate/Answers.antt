@@ -3,7 +3,7 @@ use Rattle.std.specs.Prelude.{option_map}
 use Rattle.spec_world_file.specs.WorldFile.{GateLine, ReadsNumeric, with_action}
 use Rattle.spec_world.specs.declared.world.RowSort.TheVariants.{Gate}
 use Rattle.world_draft.specs.Drafts.{row_of}
-use Rattle.world_draft.specs.Lines.Heads.{seen_head}
+use Rattle.world_lines.specs.Heads.{seen_head}
 use Rattle.world_reader.proofs.Saying.{adds, of_mapped, refuses, says_head}
 use Rattle.world_reader.proofs.actions.read_gate.Goals as goal
 

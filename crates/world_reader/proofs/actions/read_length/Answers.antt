@@ -5,7 +5,7 @@ use Rattle.spec_world_file.specs.declared.world_fault.WorldKind.TheVariants.{Bad
 use Rattle.spec_world_file.specs.WorldFile.{ReadsNumeric, TimedByLine, with_action}
 use Rattle.spec_world.specs.declared.world.RowSort.TheVariants.{TimedBy}
 use Rattle.world_draft.specs.Drafts.{row_of}
-use Rattle.world_draft.specs.Lines.Heads.{seen_head}
+use Rattle.world_lines.specs.Heads.{seen_head}
 use Rattle.world_reader.proofs.Saying.{adds, of_mapped, refuses, says_bare, says_length}
 use Rattle.world_reader.proofs.actions.read_length.Goals as goal
 

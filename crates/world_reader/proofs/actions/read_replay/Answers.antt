@@ -4,7 +4,7 @@ use Rattle.std.specs.Str.Parse.{signed_digits_value}
 use Rattle.spec_world_file.specs.WorldFile.{ReplayLine, after_word, front_word, replay_line, with_action}
 use Rattle.spec_world.specs.declared.world.RowSort.TheVariants.{Replay}
 use Rattle.world_draft.specs.Drafts.{DraftSays, row_of}
-use Rattle.world_draft.specs.Lines.Heads.{seen_head}
+use Rattle.world_lines.specs.Heads.{seen_head}
 use Rattle.world_reader.proofs.Saying.{adds, lasts, of_head, refuses, replay_is}
 use Rattle.world_reader.proofs.actions.read_replay.Goals as goal
 

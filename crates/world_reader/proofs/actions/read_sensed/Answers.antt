@@ -2,7 +2,7 @@ use Rattle.std.proofs.Common.{Err, sym, ap, ◌∙◌}
 use Rattle.std.specs.Prelude.{option_map}
 use Rattle.spec_world_file.specs.WorldFile.{SensedLine, with_row}
 use Rattle.spec_world.specs.declared.world.RowSort.TheVariants.{Sensed}
-use Rattle.world_draft.specs.Lines.Heads.{seen_head}
+use Rattle.world_lines.specs.Heads.{seen_head}
 use Rattle.world_reader.proofs.Saying.{adds, nothing_more, refuses}
 use Rattle.world_reader.proofs.actions.read_sensed.Goals as goal
 

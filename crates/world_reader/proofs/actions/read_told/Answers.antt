@@ -3,7 +3,7 @@ use Rattle.std.specs.Prelude.{option_map}
 use Rattle.spec_world_file.specs.WorldFile.{ToldLine, with_action}
 use Rattle.spec_world.specs.declared.world.RowSort.TheVariants.{Told}
 use Rattle.world_draft.specs.Drafts.{DraftSays, row_of}
-use Rattle.world_draft.specs.Lines.Heads.{seen_head}
+use Rattle.world_lines.specs.Heads.{seen_head}
 use Rattle.world_reader.proofs.Saying.{adds, nothing_more, refuses}
 use Rattle.world_reader.proofs.actions.read_told.Goals as goal
 

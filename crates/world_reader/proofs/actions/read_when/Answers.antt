@@ -2,7 +2,7 @@ use Rattle.std.proofs.Common.{Some, Err, sym, ap, subst, ◌∙◌}
 use Rattle.std.specs.Prelude.{option_map}
 use Rattle.spec_world_file.specs.WorldFile.{WhenLine, ReadsNumeric, with_row}
 use Rattle.spec_world.specs.declared.world.RowSort.TheVariants.{When}
-use Rattle.world_draft.specs.Lines.Heads.{seen_head}
+use Rattle.world_lines.specs.Heads.{seen_head}
 use Rattle.world_reader.proofs.Saying.{adds, of_mapped, refuses, says_head}
 use Rattle.world_reader.proofs.actions.read_when.Goals as goal
 

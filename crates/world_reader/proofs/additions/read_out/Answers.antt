@@ -1,4 +1,4 @@
-use Rattle.world_draft.proofs.AboutLines.Ascii.{line_once}
+use Rattle.world_lines.proofs.Ascii.{line_once}
 use Rattle.world_reader.proofs.additions.read_out.Goals as goal
 
 pub numeric-requires : goal.numeric-requires

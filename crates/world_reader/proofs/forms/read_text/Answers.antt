@@ -1,5 +1,5 @@
 use Rattle.std.proofs.Common.{sym, ◌∙◌}
-use Rattle.world_draft.proofs.AboutLines.Ascii.{line_once}
+use Rattle.world_lines.proofs.Ascii.{line_once}
 use Rattle.world_reader.proofs.forms.read_text.Goals as goal
 
 pub read_line-requires : goal.read_line-requires

@@ -1,7 +1,7 @@
 use Rattle.std.proofs.Common.{◌≡◌, ◌∙◌, ℕ, List, map, ap, subst, Ok, Err}
 use Rattle.std.specs.Str.Parse.{signed_digits_value}
 use Rattle.spec_world_file.specs.WorldFile.{Part, runners_of}
-use Rattle.world_draft.specs.Lines.Written.{seen_part}
+use Rattle.world_lines.specs.Written.{seen_part}
 use Rattle.world_draft.specs.Rounds.{PartsSay, what_of}
 use Rattle.world_reader.proofs.Saying.{rounds_refused, rounds_said}
 use Rattle.world_reader.proofs.rounds.add_rounds.Goals as goal

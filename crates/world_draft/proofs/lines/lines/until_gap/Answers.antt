@@ -1,6 +1,0 @@
-use Rattle.std.proofs.Common.{rules}
-use Rattle.std.proofs.lemmas.List.{take_all}
-use Rattle.world_draft.proofs.lines.lines.until_gap.Goals as goal
-
-pub gap-init : goal.gap-init
-gap-init c = search (rules, take_all)

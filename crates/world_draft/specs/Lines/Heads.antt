@@ -1,7 +1,0 @@
--- The head of a row, as the code has it.
-use Rattle.spec_world_file.specs.WorldFile as file
-use Rattle.world_draft.specs.declared.lines.head.Head.{Head}
-
--- a head of the code as the definition has it
-abbrev pub seen_head : Head → file.Head
-seen_head head = record { id = head.id; ports = head.ports.items }

@@ -1,0 +1,5 @@
+pub mod Ascii
+pub mod Quoting
+pub mod Rests
+pub mod RoundParts
+pub mod Telling
