@@ -1,7 +1,6 @@
 //! The engine for programs in C: a session behind a pointer, which each call is lent. include/bt.h declares the calls.
 #![tactic(auto)]
 
-mod codes;
 mod ending;
 mod events;
 mod hosted;
@@ -10,5 +9,3 @@ mod nodes;
 mod notes;
 mod opening;
 mod reads;
-mod text;
-mod values;
