@@ -1,5 +1,5 @@
 -- A script that is compiled over the slots of its names does what it does in the scope of its node.
-use Rattle.std.proofs.Common.{◌≡◌, ℕ, ◌<◌, ◌≤◌, List, length, map, get_or, Option, Some, [], true, sym, ap, subst, ◌∙◌}
+use Rattle.std.proofs.Common.{◌≡◌, ℕ, ◌<◌, ◌≤◌, List, length, map, get_or, Option, Some, [], true, refl, sym, ap, subst, ◌∙◌}
 use Rattle.std.specs.List.{All, Contains}
 use Rattle.std.proofs.lemmas.List.{get_or-map}
 use Rattle.std.proofs.lemmas.List.Elements.{All-map, All-nil, All-same, All-weaker}
@@ -20,6 +20,7 @@ use Rattle.spec_tree.specs.Boards.{port_of, slots, value_keys}
 use Rattle.spec_run.specs.Ports.{given_by}
 use Rattle.run_arena.specs.declared.source.Source.{Source}
 use Rattle.run_arena.specs.declared.source.Source.TheVariants.{Slot}
+use Rattle.run_arena.specs.Booked.{IsCodeIn, IsOver}
 use Rattle.run_arena.specs.Nodes.{IsCodeOf}
 use Rattle.run_arena.specs.Resolving.{AreNamed, named_slot, names_in_script, port_keys, view_in}
 use Rattle.run_arena.specs.Sources.{slot_in_view, source_at, source_of}
@@ -57,6 +58,13 @@ module _ (tree : Tree) (world : World) (number : ℕ) where
             (All-map (λ (slot : ℕ). slot < length (slots tree)) f made.names
             (All-weaker Named (λ name. f name < length (slots tree)) slot_below made.names known))));
       }
+
+  -- so does a code over the slots of its names in the scope
+  pub compiled_in : (slot : ℕ → List ℕ → ℕ) (script : Script) (code : Code) → slot ≡ named_slot tree → IsCodeIn (slot number) script code → AreNamed tree number (names_in_script script)
+      → IsCodeOf (view_in tree world number) script code
+  compiled_in slot script code is found named =
+      let over = subst (λ (slot : ℕ → List ℕ → ℕ). IsOver (slot number) found.made code) is found.over in
+      compiled script found.made code (map (named_slot tree number) found.made.names) found.of refl named over.program over.needed
 
   -- the slot of a port that is given a key
   module _ (ports : List Port) (name : List ℕ) (port : Port) (key : List ℕ) (named : AreNamed tree number (port_keys ports)) (found : port_of ports name ≡ Some port) (is : port.value ≡ Key key) where

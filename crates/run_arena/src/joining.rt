@@ -10,9 +10,10 @@ ghost use Rattle.spec_run.specs.Joins.{first_missing, leaf_lacks, place_by};
 ghost use Rattle.run_arena.specs.Laying.{counted_all};
 ghost use Rattle.run_arena.specs.Nodes.{at_rest as rested};
 ghost use Rattle.run_arena.specs.Made.{IsArenaOf};
+ghost use Rattle.run_arena.specs.Resolving.{named_slot};
 
 use crate::arena::Arena;
-use crate::book::Book;
+use crate::book::{Book, Slotting};
 use crate::frame::frames_for;
 use crate::laying::nodes_of;
 use crate::leaves::next_instance;
@@ -26,6 +27,7 @@ use spec_run::{JoinFault, Memo, Status};
 use spec_tree::{Kind, Term, Tree};
 use std::alloc::Global;
 use std::cell::RefCell;
+use std::marker::Brand;
 use tree_board::Slots;
 
 /// Adds the ID of a node that is a leaf. The error is want of memory.
@@ -122,7 +124,7 @@ fn check_leaves<D: Drivers>(
 }
 
 /// The arena of the first runner, for a tree of which nothing is missing. The error is want of memory.
-fn arena_with<D: Drivers>(setting: &Setting, drivers: &D) -> Result<Arena, NoMemory>
+fn arena_with<D: Drivers, O: Slotting>(setting: &Setting<O>, drivers: &D) -> Result<Arena, NoMemory>
     requires tree { IsRunnable setting.now.tree.now }
     requires world { IsRunnableWorld setting.now.world.now }
     requires joined { first_missing setting.now.world.now.rows (D.states drivers.now) (leaf_ids setting.now.tree.now.term) ≡ None }
@@ -140,6 +142,32 @@ fn arena_with<D: Drivers>(setting: &Setting, drivers: &D) -> Result<Arena, NoMem
     })
 }
 
+/// The arena of the first runner, for a tree with these slots of which nothing is missing. The error is want of memory.
+fn arena_over<D: Drivers, O: Slotting>(
+    alloc: Global,
+    tree: &Tree,
+    slots: &Slots,
+    world: &IndexedWorld,
+    drivers: &D,
+) -> Result<Arena, NoMemory>
+    requires tree { IsRunnable tree.now }
+    requires slots { slots.now ≡ slot_table tree.now }
+    requires slot { O.slot ≡ named_slot tree.now }
+    requires world { IsRunnableWorld world.now }
+    requires joined { first_missing world.now.rows (D.states drivers.now) (leaf_ids tree.now.term) ≡ None }
+    ensures { IfOk result (λ arena. IsArenaOf tree.now world.now (D.states drivers.now) 1 arena) }
+{
+    let setting: Setting<O> = Setting {
+        alloc,
+        tree,
+        slots,
+        world,
+        book: RefCell::new(Book::empty(alloc)),
+        unguarded: Shared::of(alloc, no_guards())?,
+    };
+    arena_with(&setting, drivers)
+}
+
 /// The arena of the first runner, for a tree of which nothing is missing. No row or driver of a leaf
 /// is looked up before its node is laid. The error is want of memory.
 pub fn first_arena_of<D: Drivers>(
@@ -155,15 +183,7 @@ pub fn first_arena_of<D: Drivers>(
     requires joined { first_missing world.now.rows (D.states drivers.now) (leaf_ids tree.now.term) ≡ None }
     ensures { IfOk result (λ arena. IsArenaOf tree.now world.now (D.states drivers.now) 1 arena) }
 {
-    let setting = Setting {
-        alloc,
-        tree,
-        slots,
-        world,
-        book: RefCell::new(Book::empty(alloc)),
-        unguarded: Shared::of(alloc, no_guards())?,
-    };
-    arena_with(&setting, drivers)
+    arena_over::<D, Brand>(alloc, tree, slots, world, drivers)
 }
 
 /// Makes the arena of the first runner of a world, for a tree with its slots: each node has what its visits

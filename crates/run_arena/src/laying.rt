@@ -10,6 +10,7 @@ ghost use Rattle.run_arena.specs.Nodes.{IsFit, no_guards as without_guards, node
 ghost use Rattle.run_arena.specs.Resolving.{AreNamed, GuardsAreNamed, names_if_there, port_keys, view_in};
 ghost use Rattle.run_arena.specs.Stands.{uids_of, written};
 
+use crate::book::Slotting;
 use crate::leaves::leaf_of;
 use crate::nodes::{Node, ReadyGuards, ReadyLeaf};
 use crate::ports::kind_sources;
@@ -70,10 +71,10 @@ fn bare_node(
 /// Gives the node of a leaf its leaf. It is not inlined, so that only leaves clear room for one. The
 /// error is want of memory.
 #[inline(never)]
-fn fill_leaf<D: Drivers>(
+fn fill_leaf<D: Drivers, O: Slotting>(
     node: &mut Node,
     term: &Term,
-    setting: &Setting,
+    setting: &Setting<O>,
     scope: u32,
     drivers: &D,
     next: &mut [u32],
@@ -92,10 +93,10 @@ fn fill_leaf<D: Drivers>(
 }
 
 /// Gives the bare node of a term its code, its guards and its leaf. The error is want of memory.
-fn fill<D: Drivers>(
+fn fill<D: Drivers, O: Slotting>(
     node: &mut Node,
     term: &Term,
-    setting: &Setting,
+    setting: &Setting<O>,
     scope: u32,
     drivers: &D,
     next: &mut [u32],
@@ -123,9 +124,9 @@ fn fill<D: Drivers>(
 
 /// Adds the node of a term after the nodes that are there, but without its size and the uids of its
 /// children, which are set later. The error is want of memory.
-fn add_node<D: Drivers>(
+fn add_node<D: Drivers, O: Slotting>(
     term: &Term,
-    setting: &Setting,
+    setting: &Setting<O>,
     scope: u32,
     drivers: &D,
     next: &mut [u32],
@@ -177,9 +178,9 @@ fn close(nodes: &mut Vec<Node>, place: usize, child_uids: Uids) -> Result<(), No
 
 /// Adds a term of a tree after the nodes that are there. The error is want of memory.
 #[cycle(laying)]
-fn lay_term<D: Drivers>(
+fn lay_term<D: Drivers, O: Slotting>(
     term: &Term,
-    setting: &Setting,
+    setting: &Setting<O>,
     scope: u32,
     drivers: &D,
     next: &mut [u32],
@@ -202,9 +203,9 @@ fn lay_term<D: Drivers>(
 
 /// Adds some terms of a tree in order, and gives their uids. The error is want of memory.
 #[cycle(laying)]
-fn lay_terms<D: Drivers>(
+fn lay_terms<D: Drivers, O: Slotting>(
     terms: &[Term],
-    setting: &Setting,
+    setting: &Setting<O>,
     scope: u32,
     drivers: &D,
     next: &mut [u32],
@@ -227,8 +228,8 @@ fn lay_terms<D: Drivers>(
 }
 
 /// The nodes of a tree by uid, or want of memory.
-pub(crate) fn nodes_of<D: Drivers>(
-    setting: &Setting,
+pub(crate) fn nodes_of<D: Drivers, O: Slotting>(
+    setting: &Setting<O>,
     drivers: &D,
     next: &mut [u32],
 ) -> Result<Vec<Node>, NoMemory>

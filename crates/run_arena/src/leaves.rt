@@ -12,6 +12,7 @@ ghost use Rattle.run_arena.specs.Resolving.{AreNamed, port_keys, view_in};
 ghost use Rattle.run_arena.specs.Rows.{IsReadyRow, counted_at};
 ghost use Rattle.run_arena.specs.Stands.{written};
 
+use crate::book::Slotting;
 use crate::nodes::ReadyLeaf;
 use crate::ports::{name_sources, output_sources};
 use crate::resolving::Setting;
@@ -37,12 +38,12 @@ pub(crate) fn next_instance(next: &mut [u32], place: usize) -> Result<u32, NoMem
 }
 
 /// A leaf with these ports that follows a row, with its driver and its instance, or want of memory.
-fn leaf_with(
+fn leaf_with<O: Slotting>(
     ports: &[Port],
     found: FoundRow,
     driver: usize,
     instance: u32,
-    setting: &Setting,
+    setting: &Setting<O>,
     scope: u32,
 ) -> Result<ReadyLeaf, NoMemory>
     requires named { AreNamed setting.now.tree.now scope (port_keys ports.now) }
@@ -67,9 +68,9 @@ fn leaf_with(
 /// The leaf of a node that is one: its driver is the first of its row's kind, and its instance the
 /// next one there. The error is want of memory.
 #[tactic(auto, unfolding(crate::specs::Laying::LeafIs, crate::specs::Laying::IsNext))]
-pub(crate) fn leaf_of<D: Drivers>(
+pub(crate) fn leaf_of<D: Drivers, O: Slotting>(
     node: &Term,
-    setting: &Setting,
+    setting: &Setting<O>,
     scope: u32,
     drivers: &D,
     next: &mut [u32],

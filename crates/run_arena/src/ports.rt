@@ -7,6 +7,7 @@ ghost use Rattle.run_arena.specs.Resolving.{AreNamed, port_keys, view_in};
 ghost use Rattle.run_arena.specs.Rows.{output_names};
 ghost use Rattle.run_arena.specs.Sources.{IsSourceOf, source_at as source_in};
 
+use crate::book::Slotting;
 use crate::resolving::{Setting, source_at};
 use crate::source::Source;
 use base_tables::{PortRule, ports_of};
@@ -15,10 +16,10 @@ use spec_tree::{Kind, Port};
 use spec_world::{Out, Row, RowSort};
 
 /// What the ports of these rules are given, in order, or want of memory.
-fn rule_sources(
+fn rule_sources<O: Slotting>(
     rules: &[PortRule],
     ports: &[Port],
-    setting: &Setting,
+    setting: &Setting<O>,
     scope: u32,
 ) -> Result<Vec<Source>, NoMemory>
     requires { AreNamed setting.now.tree.now scope (port_keys ports.now) }
@@ -35,10 +36,10 @@ fn rule_sources(
 
 /// What the ports of a built-in node are given, in the order of its kind's ports, or want of
 /// memory.
-pub(crate) fn kind_sources(
+pub(crate) fn kind_sources<O: Slotting>(
     kind: Kind,
     ports: &[Port],
-    setting: &Setting,
+    setting: &Setting<O>,
     scope: u32,
 ) -> Result<Vec<Source>, NoMemory>
     requires { AreNamed setting.now.tree.now scope (port_keys ports.now) }
@@ -50,10 +51,10 @@ pub(crate) fn kind_sources(
 }
 
 /// What the ports of these names are given, in order, or want of memory.
-pub(crate) fn name_sources(
+pub(crate) fn name_sources<O: Slotting>(
     names: &[Name],
     ports: &[Port],
-    setting: &Setting,
+    setting: &Setting<O>,
     scope: u32,
 ) -> Result<Vec<Source>, NoMemory>
     requires { AreNamed setting.now.tree.now scope (port_keys ports.now) }
@@ -69,10 +70,10 @@ pub(crate) fn name_sources(
 }
 
 /// What the ports of these outputs are given, in order, or want of memory.
-fn out_sources(
+fn out_sources<O: Slotting>(
     outs: &[Out],
     ports: &[Port],
-    setting: &Setting,
+    setting: &Setting<O>,
     scope: u32,
 ) -> Result<Vec<Source>, NoMemory>
     requires { AreNamed setting.now.tree.now scope (port_keys ports.now) }
@@ -89,10 +90,10 @@ fn out_sources(
 
 /// What the ports of a row's outputs are given, in order, or want of memory: of those for which values are told, or of
 /// those that the row works out.
-pub(crate) fn output_sources(
+pub(crate) fn output_sources<O: Slotting>(
     row: &Row,
     ports: &[Port],
-    setting: &Setting,
+    setting: &Setting<O>,
     scope: u32,
 ) -> Result<Vec<Source>, NoMemory>
     requires { AreNamed setting.now.tree.now scope (port_keys ports.now) }

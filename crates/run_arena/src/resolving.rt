@@ -1,14 +1,14 @@
-ghost use Rattle.std.specs.Prelude.{◌≡◌, Some, length, map, IfOk};
+ghost use Rattle.std.specs.Prelude.{◌≡◌, length, map, IfOk};
 ghost use Rattle.std.specs.Option.{option_copied};
-ghost use Rattle.script_code.specs.Codes.{IsCodeFor};
 ghost use Rattle.spec_tree.specs.Boards.{port_of, slots as cells};
 ghost use Rattle.base_tables.specs.SlotTables.{slot_table};
 ghost use Rattle.spec_tree.specs.Trees.{GuardsFit, ScriptFits};
+ghost use Rattle.run_arena.specs.Booked.{IsOver};
 ghost use Rattle.run_arena.specs.Nodes.{AreCompiled, IsCompiled, has_after, has_before, no_guards};
 ghost use Rattle.run_arena.specs.Resolving.{AreNamed, GuardsAreNamed, named_slot, names_if_there, port_keys, view_in};
 ghost use Rattle.run_arena.specs.Sources.{IsSourceOf, source_at as source_in};
 
-use crate::book::Book;
+use crate::book::{Book, Slotting};
 use crate::nodes::ReadyGuards;
 use crate::rows::IndexedWorld;
 use crate::source::Source;
@@ -23,28 +23,33 @@ use tree_board::{Slots, slot};
 /// What stays the same while a tree is laid out: where memory comes from, the tree with its slots, and
 /// a world whose rows are ready.
 #[derive(Drop)]
-pub(crate) struct Setting<'a> {
+pub(crate) struct Setting<'a, O: Slotting> {
     pub(crate) alloc: Global,
     pub(crate) tree: &'a Tree,
     pub(crate) slots: &'a Slots,
     pub(crate) world: &'a IndexedWorld<'a>,
     /// The scripts that were compiled so far.
-    pub(crate) book: RefCell<Book>,
+    pub(crate) book: RefCell<Book<O>>,
     /// No guards, which all nodes without any share.
     pub(crate) unguarded: Shared<ReadyGuards>,
     pub(crate) ghost table: { slots.now ≡ slot_table tree.now },
+    pub(crate) ghost slot: { O.slot ≡ named_slot tree.now },
     pub(crate) ghost bare: { unguarded ≡ no_guards },
 }
 
 /// The slot of a key in the scope of this number; 0 where the tree has none for it there.
-fn slot_of(setting: &Setting, scope: u32, key: &Name) -> u32
+fn slot_of<O: Slotting>(setting: &Setting<O>, scope: u32, key: &Name) -> u32
     ensures { result ≡ named_slot setting.now.tree.now scope key.now }
 {
     slot(setting.slots, scope, key).unwrap_or(0)
 }
 
 /// The slots of these names in the scope of this number, or want of memory.
-fn slots_of(names: &[Name], setting: &Setting, scope: u32) -> Result<Vec<u32>, NoMemory>
+fn slots_of<O: Slotting>(
+    names: &[Name],
+    setting: &Setting<O>,
+    scope: u32,
+) -> Result<Vec<u32>, NoMemory>
     ensures { IfOk result (λ slots. slots.items ≡ map (named_slot setting.now.tree.now scope) names.now) }
 {
     let mut slots = Vec::with_capacity(setting.alloc, names.len())?;
@@ -54,21 +59,23 @@ fn slots_of(names: &[Name], setting: &Setting, scope: u32) -> Result<Vec<u32>, N
     Ok(slots)
 }
 
-/// The code of a script, or want of memory. It is in the book, unless that is in use.
-fn code_of(setting: &Setting, script: &Script) -> Result<ScriptCode, NoMemory>
-    requires { ScriptFits (Some script.now) }
-    ensures { IfOk result (IsCodeFor script.now) }
+/// The code of a script over the slots of its names in the scope of this number, or want of memory.
+pub(crate) fn code_over<O: Slotting>(
+    code: &ScriptCode,
+    setting: &Setting<O>,
+    scope: u32,
+) -> Result<Code, NoMemory>
+    ensures { IfOk result (IsOver (O.slot scope) code.now) }
 {
-    match setting.book.try_borrow_mut() {
-        Ok(mut book) => book.code_of(setting.alloc, script),
-        Err(_) => Err(NoMemory),
-    }
+    let slots = slots_of(code.names(), setting, scope)?;
+    Ok(code.over(setting.alloc, slots)?)
 }
 
-/// A script compiled for the scope of this number, where there is one, or want of memory.
-pub(crate) fn ready_script(
+/// A script compiled for the scope of this number, where there is one, or want of memory. Its code is in the book, unless
+/// that is in use.
+pub(crate) fn ready_script<O: Slotting>(
     script: &Option<Shared<Script>>,
-    setting: &Setting,
+    setting: &Setting<O>,
     scope: u32,
 ) -> Result<Option<Code>, NoMemory>
     requires fits { ScriptFits script.now }
@@ -77,18 +84,17 @@ pub(crate) fn ready_script(
 {
     match script {
         None => Ok(None),
-        Some(script) => {
-            let code = code_of(setting, script.get())?;
-            let slots = slots_of(code.names(), setting, scope)?;
-            Ok(Some(code.over(setting.alloc, slots)?))
-        }
+        Some(script) => match setting.book.try_borrow_mut() {
+            Ok(mut book) => Ok(Some(book.code_in(setting, script.get(), scope)?)),
+            Err(_) => Err(NoMemory),
+        },
     }
 }
 
 /// The guards of a node compiled for the scope of this number, or want of memory.
-pub(crate) fn ready_guards(
+pub(crate) fn ready_guards<O: Slotting>(
     guards: &Guards,
-    setting: &Setting,
+    setting: &Setting<O>,
     scope: u32,
 ) -> Result<ReadyGuards, NoMemory>
     requires fit { GuardsFit guards.now }
@@ -140,10 +146,10 @@ fn port_named<'a>(ports: &'a [Port], name: &[u8]) -> Option<&'a Port>
 
 /// What the port of this name is given, its key resolved in the scope of this number. The error is
 /// want of memory.
-pub(crate) fn source_at(
+pub(crate) fn source_at<O: Slotting>(
     ports: &[Port],
     name: &[u8],
-    setting: &Setting,
+    setting: &Setting<O>,
     scope: u32,
 ) -> Result<Source, NoMemory>
     requires { AreNamed setting.now.tree.now scope (port_keys ports.now) }

@@ -7,6 +7,7 @@ ghost use Rattle.run_arena.specs.Nodes.{AreCompiled, IsCompiled, has_after, has_
 ghost use Rattle.run_arena.specs.Resolving.{AreNamed, GuardsAreNamed, names_if_there, view_in};
 ghost use Rattle.run_arena.specs.Stands.{written};
 
+use crate::book::Slotting;
 use crate::nodes::{Node, ReadyGuards};
 use crate::resolving::{Setting, is_after, is_before, ready_guards, ready_script};
 use base_texts::{NoMemory, Shared};
@@ -52,7 +53,12 @@ fn is_plain(term: &Term) -> bool
 /// Gives a node the code and the guards of its term, compiled for the scope of this number. It is not
 /// inlined, since few nodes have any. The error is want of memory.
 #[inline(never)]
-fn give_some(node: &mut Node, term: &Term, setting: &Setting, scope: u32) -> Result<(), NoMemory>
+fn give_some<O: Slotting>(
+    node: &mut Node,
+    term: &Term,
+    setting: &Setting<O>,
+    scope: u32,
+) -> Result<(), NoMemory>
     requires code_fits { ScriptFits (out-Term term.now).code }
     requires guards_fit { GuardsFit (out-Term term.now).guards }
     requires code { AreNamed setting.now.tree.now scope (names_if_there (out-Term term.now).code) }
@@ -70,10 +76,10 @@ fn give_some(node: &mut Node, term: &Term, setting: &Setting, scope: u32) -> Res
 
 /// Gives a node that has neither code nor guards yet those of its term, compiled for the scope of this
 /// number. The error is want of memory.
-pub(crate) fn give_scripts(
+pub(crate) fn give_scripts<O: Slotting>(
     node: &mut Node,
     term: &Term,
-    setting: &Setting,
+    setting: &Setting<O>,
     scope: u32,
 ) -> Result<(), NoMemory>
     requires no_code { node.old.code ≡ None }

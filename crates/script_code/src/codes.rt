@@ -78,10 +78,26 @@ impl ScriptCode {
         requires { length slots.items ≡ length self.now.names }
         ensures program { IfOk result (λ code. program code ≡ program_over self.now slots.items) }
         ensures needed { IfOk result (λ code. needed code ≡ slots_below slots.items) }
+        ensures slots { IfOk result (λ code. code.slots ≡ slots.items) }
     {
         Ok(Code {
             stmts: self.stmts.share()?,
             slots: Shared::of(alloc, Items::of(slots))?,
+        })
+    }
+
+    /// The code over the slots of another one, which shares them. It allocates nothing; `NoMemory` stands for a full count
+    /// of owners.
+    #[tactic(auto, unfolding(crate::specs::Codes::needed, crate::specs::Codes::program, crate::specs::Codes::program_over))]
+    pub fn over_those_of(&self, other: &Code) -> Result<Code, NoMemory>
+        requires { length other.now.slots ≡ length self.now.names }
+        ensures program { IfOk result (λ code. program code ≡ program_over self.now other.now.slots) }
+        ensures needed { IfOk result (λ code. needed code ≡ slots_below other.now.slots) }
+        ensures slots { IfOk result (λ code. code.slots ≡ other.now.slots) }
+    {
+        Ok(Code {
+            stmts: self.stmts.share()?,
+            slots: other.slots.share()?,
         })
     }
 }

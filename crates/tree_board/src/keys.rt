@@ -18,6 +18,9 @@ pub(crate) struct Keys {
     /// By the mark of a key: the place of the one that was named again last of those with this mark. Scripts name the
     /// same keys over and over, and most of them are found here, without a search.
     places: Vec<usize>,
+    /// The place after that of the key that was named last. A script that stands in many nodes names its keys in one order,
+    /// so that this one is looked at first.
+    next: usize,
 }
 
 impl Model for Keys {
@@ -36,6 +39,7 @@ impl Keys {
         Keys {
             set: IndexSet::new(alloc),
             places: Vec::new(alloc),
+            next: 0,
         }
     }
 
@@ -50,26 +54,48 @@ impl Keys {
     pub(crate) fn name(&mut self, alloc: Global, key: &Name) -> Result<(), NoMemory>
         ensures { OnOk result (self.new ≡ insert_key bytes_eq self.old key.now) }
     {
-        let mark = mark_of(key);
-        if self.is_at(mark, key) {
+        let place = self.next;
+        if self.is_at(place, key) {
+            self.next = place.wrapping_add(1);
             return Ok(());
         }
+        self.look_up(alloc, key)
+    }
+
+    /// Adds a key, where it is not yet among them. It is looked for.
+    #[inline(never)]
+    fn look_up(&mut self, alloc: Global, key: &Name) -> Result<(), NoMemory>
+        ensures { OnOk result (self.new ≡ insert_key bytes_eq self.old key.now) }
+    {
+        let mark = mark_of(key);
+        if let Some(place) = self.marked(mark) {
+            if self.is_at(place, key) {
+                self.next = place.wrapping_add(1);
+                return Ok(());
+            }
+        }
         let (place, is_new) = self.set.insert_full(key.copy(alloc)?)?;
+        self.next = place.wrapping_add(1);
         if is_new {
             return Ok(());
         }
         self.remember(alloc, mark, place)
     }
 
-    /// Whether the key is the one that is remembered by its mark.
+    /// The place that is remembered by a mark.
+    fn marked(&self, mark: usize) -> Option<usize> {
+        match self.places.get(mark) {
+            Some(place) => Some(*place),
+            None => None,
+        }
+    }
+
+    /// Whether the key is the one at a place.
     #[tactic(auto, using(std::proofs::lemmas::Map::Keys::any_passes_from_place))]
-    fn is_at(&self, mark: usize, key: &Name) -> bool
+    fn is_at(&self, place: usize, key: &Name) -> bool
         ensures { IsTrue result → list_any (bytes_eq key.now) self.now ≡ true }
     {
-        let Some(place) = self.places.get(mark) else {
-            return false;
-        };
-        match self.set.get_index(*place) {
+        match self.set.get_index(place) {
             Some(other) => key == other,
             None => false,
         }

@@ -42,7 +42,7 @@ lay_term-lay_terms-requires g t c = λ κs lives.
     (c.scope_under-inner.ensures ∙ ap (λ u. children_scope_number (out-Term c.args.term.now).kind u c.args.scope) (c.in_ok-uid.ensures ∙ place))
     (can_below _ _ _ c.args.term.now uid c.args.scope c.requires.can) in
     let places = next_length (driver_of added.node.leaf) c.args.next.now c.add_node.new.next added.filled.counted ∙ c.requires.places in
-    (omega (arith, counts_below c.args.term.now, ap (λ (ts : List Term). sum (map node_count ts)) c.list.ensures, c.decreases), (λ a is. lives a is, (can, places)))
+    (omega (arith, counts_below c.args.term.now, ap (λ (ts : List Term). sum (map node_count ts)) c.list.ensures, c.decreases), (λ a is. lives.0 a is, (λ a is. lives.1 a is, (can, places))))
 
 pub lay_term-close-requires : goal.lay_term-close-requires
 lay_term-close-requires g t c =
@@ -68,7 +68,7 @@ lay_terms-lay_term-requires g t c = λ κs lives.
     let here = terms_here c.args.terms.now i c.term-item.result c.loop-term-test.true c.term-item.is in
     let can = can_first c.args.setting.now.tree.now c.args.setting.now.world.now (g.D.Drivers.states c.args.drivers.now) c.term-item.result (drop (i + 1) c.args.terms.now) (length c.loop-term.nodes.items) c.args.scope
     (subst (λ (ts : List Term). CanBeLaid c.args.setting.now.tree.now c.args.setting.now.world.now (g.D.Drivers.states c.args.drivers.now) ts (length c.loop-term.nodes.items) c.args.scope) here c.loop-term.invariant.can) in
-    (omega (arith, counts_within c.args.terms.now i c.term-item.result c.loop-term-test.true c.term-item.is, c.decreases), (λ a is. lives a is, (can, c.loop-term.invariant.places)))
+    (omega (arith, counts_within c.args.terms.now i c.term-item.result c.loop-term-test.true c.term-item.is, c.decreases), (λ a is. lives.0 a is, (λ a is. lives.1 a is, (can, c.loop-term.invariant.places))))
 
 pub lay_terms-returns : goal.lay_terms-returns
 lay_terms-returns g t c =

@@ -8,7 +8,7 @@ use Rattle.run_arena.proofs.ports.out_sources.Given as goal
 
 -- the sources so far, followed by those still to come, are all
 abbrev pub invariant-loop-out : goal.invariant-loop-out
-invariant-loop-out l = record {
+invariant-loop-out g l = record {
   sources : l.sources.items ++ map (λ (name : List ℕ). source_at (view_in l.setting.tree.now l.setting.world.now l.scope) l.ports name) (ports_written (drop l.out-index l.outs)) ≡ map (λ (name : List ℕ). source_at (view_in l.setting.tree.now l.setting.world.now l.scope) l.ports name) (ports_written l.outs);
   slots : All (IsSourceOf (length (slots l.setting.tree.now))) l.sources.items;
 }

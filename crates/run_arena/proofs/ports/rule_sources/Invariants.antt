@@ -8,7 +8,7 @@ use Rattle.run_arena.proofs.ports.rule_sources.Given as goal
 
 -- the sources so far, followed by those still to come, are all
 abbrev pub invariant-loop-rule : goal.invariant-loop-rule
-invariant-loop-rule l = record {
+invariant-loop-rule g l = record {
   sources : l.sources.items ++ map (λ (port : PortRule). source_at (view_in l.setting.tree.now l.setting.world.now l.scope) l.ports port.name.now) (drop l.rule-index l.rules) ≡ map (λ (port : PortRule). source_at (view_in l.setting.tree.now l.setting.world.now l.scope) l.ports port.name.now) l.rules;
   slots : All (IsSourceOf (length (slots l.setting.tree.now))) l.sources.items;
 }

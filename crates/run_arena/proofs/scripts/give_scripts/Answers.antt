@@ -5,7 +5,7 @@ use Rattle.run_arena.specs.Resolving.{view_in}
 use Rattle.run_arena.proofs.scripts.give_scripts.Goals as goal
 
 pub returns-then-is_plain-clause-scripted : goal.returns-then-is_plain-clause-scripted
-returns-then-is_plain-clause-scripted c =
+returns-then-is_plain-clause-scripted g c =
     let view = view_in c.args.setting.now.tree.now c.args.setting.now.world.now c.args.scope in
     let term = out-Term c.args.term.now in
     record {
