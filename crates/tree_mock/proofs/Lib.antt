@@ -1,5 +1,8 @@
 pub mod AboutPatterns
+pub mod Asking
+pub mod Conversions
 pub mod Eaches
+pub mod Fronts
 pub mod Ordered
 pub mod Parting
 pub mod ReadFit

@@ -22,7 +22,7 @@ use Rattle.spec_tree_file.specs.declared.mock_rules.ReturnStatus.{ReturnStatus}
 use Rattle.spec_tree_file.specs.declared.mock_rules.Rule.{Rule}
 use Rattle.spec_tree_file.specs.declared.mock_rules.Rules.{Rules}
 use Rattle.tree_mock.specs.FitRules.{ConfigurationFits, RulesFit}
-use Rattle.spec_tree_file.specs.RuleFiles.{Draft, both, configuration_in, configured, delay_in, document_in, draft_in, each, object_in, rule_in, said, status_in, text_in, with_draft, with_script, with_text, within_duration}
+use Rattle.spec_tree_file.specs.RuleFiles.{Draft, both, configuration_in, configured, delay_in, document_in, draft_in, each, members_in, object_in, rule_in, said, status_in, text_in, with_draft, with_script, with_text, within_duration}
 
 same_ok : {A : Type 0} (x y : A) → ◌≡◌ {A = Result A MockFault} (Ok x) (Ok y) → x ≡ y
 same_ok x y e = cc
@@ -102,3 +102,8 @@ document_fits document rules e =
 pub gives_fit : (r : Result Rules (Stop MockFault)) (document : Members) → Gives r (document_in document) → IfOk r RulesFit
 gives_fit (Ok rules) document e = document_fits document rules e
 gives_fit (Err stop) document e = tt
+
+pub members_fit : (r : Result Rules (Stop MockFault)) (o : Option Members) → Gives r (go_on document_in (members_in [] o)) → IfOk r RulesFit
+members_fit r (Some document) e = gives_fit r document e
+members_fit (Ok rules) None e = absurd (cc)
+members_fit (Err stop) None e = tt

@@ -1,6 +1,6 @@
 -- Patterns with stars, and the texts that they match.
-use Rattle.std.specs.Prelude.{◌≡◌, ℕ, List, [], ◌∷◌, ◌++◌, Bool, not, if◌then◌else◌}
-use Rattle.std.specs.List.{list_all}
+use Rattle.std.specs.Prelude.{◌≡◌, ℕ, List, [], ◌∷◌, ◌++◌, Bool, not, take, if◌then◌else◌}
+use Rattle.std.specs.List.{list_all, prefix_len}
 use Rattle.spec_tree_file.specs.Patterns.{is_star}
 
 -- the first of some texts, and the empty one where there is none
@@ -26,3 +26,11 @@ Matches pattern text = (texts : List (List ℕ)) × (filled pattern texts ≡ te
 -- no star stands in this
 abbrev pub is_plain : List ℕ → Bool
 is_plain bytes = list_all (λ byte. not (is_star byte)) bytes
+
+-- how many bytes of a pattern come before its first star
+abbrev pub before_star : List ℕ → ℕ
+before_star pattern = prefix_len (λ byte. not (is_star byte)) pattern
+
+-- these bytes
+abbrev pub front : List ℕ → List ℕ
+front pattern = take (before_star pattern) pattern

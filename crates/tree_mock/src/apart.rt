@@ -8,8 +8,9 @@ ghost use Rattle.spec_tree.specs.declared.term.Term.{out-Term};
 ghost use Rattle.spec_tree_file.specs.Substitutions.{inside, rule_of};
 ghost use Rattle.tree_mock.specs.Seen.{opening_seen};
 
+use crate::lookup::Lookup;
 use crate::names::name_of;
-use crate::nodes::{rule_of, with_children};
+use crate::nodes::with_children;
 use crate::substituting::add_term;
 use base_texts::{Boxed, Items, Name, NoMemory};
 use spec_tree::{Kind, Term, Tree};
@@ -158,12 +159,12 @@ fn own_id(
 
 /// A node without children, whose path begins with this text.
 #[inline(never)]
-fn lone(alloc: Global, rules: &Rules, node: &Term, above: &Name) -> Result<Part, NoMemory>
+fn lone(alloc: Global, rules: &Lookup<'_>, node: &Term, above: &Name) -> Result<Part, NoMemory>
     ensures changed { IfOk result (λ part. part.changed ≡ is_some (rule_of rules.now.rules (above.now ++ (out-Term node.now).name))) }
     ensures term { IfOk result (λ part. part.term ≡ renamed (out-Term node.now) (out-Term node.now).id []) }
 {
     let path = joined(alloc, above, &node.name)?;
-    let changed = rule_of(rules.rules.list(), path.list()).is_some();
+    let changed = rules.rule_of(path.list()).is_some();
     let term = with_children(alloc, node, Items::of(Vec::new(alloc)))?;
     let term = Boxed::of(alloc, term)?;
     Ok(Part { changed, term })
@@ -193,7 +194,7 @@ fn over_parts(
 #[cycle(parts)]
 fn all_apart(
     alloc: Global,
-    rules: &Rules,
+    rules: &Lookup<'_>,
     found: &[Opening],
     terms: &[Term],
     above: &Name,
@@ -218,7 +219,7 @@ fn all_apart(
 #[cycle(parts)]
 fn apart(
     alloc: Global,
-    rules: &Rules,
+    rules: &Lookup<'_>,
     found: &[Opening],
     term: &Term,
     above: &Name,
@@ -242,7 +243,8 @@ pub fn told_apart(alloc: Global, rules: &Rules, tree: &Tree) -> Result<Tree, NoM
     let top = Name::empty();
     let mut found = Vec::new(alloc);
     add_openings(alloc, &tree.term, &top, &mut found)?;
-    let part = apart(alloc, rules, found.as_slice(), &tree.term, &top)?;
+    let lookup = Lookup::of(alloc, rules)?;
+    let part = apart(alloc, &lookup, found.as_slice(), &tree.term, &top)?;
     let main = tree.main.copy(alloc)?;
     let term = part.term.into_inner();
     Ok(Tree { main, term })

@@ -2,8 +2,10 @@
 #![tactic(auto)]
 
 mod apart;
+mod asked;
 pub mod laws;
 mod limits;
+mod lookup;
 mod names;
 mod nodes;
 mod patterns;

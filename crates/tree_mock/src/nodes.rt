@@ -5,26 +5,14 @@ ghost use Rattle.std.specs.Option.{option_copied};
 ghost use Rattle.spec_tree.specs.declared.term.Term.{out-Term, roll-Term};
 ghost use Rattle.spec_tree_file.specs.Substitutions.{always, always_id, always_kind, answering, by_id, by_name, by_rule, configuration_of, delay_port, delayed, leaf, only_post, rule_of, with_children};
 
+use crate::lookup::Lookup;
 use crate::names::name_of;
-use crate::patterns::is_match;
 use base_texts::{Items, Name, NoMemory, Shared};
 use spec_script::{Script, Value};
 use spec_tree::{Guards, Kind, Port, PortValue, Ports, Term};
-use spec_tree_file::{Configuration, ReturnStatus, Rule, Rules};
+use spec_tree_file::{Configuration, ReturnStatus};
 use std::alloc::Global;
 use tree_copies::{share_guards, share_script};
-
-/// The first rule whose pattern matches the path. None where there is none.
-pub fn rule_of<'r>(rules: &'r [Rule], path: &[u8]) -> Option<&'r Rule>
-    ensures { option_copied result ≡ rule_of rules.entry.now path.now }
-{
-    for rule in rules {
-        if is_match(rule.pattern.list(), path) {
-            return Some(rule);
-        }
-    }
-    None
-}
 
 /// The configuration of this name. None where there is none.
 fn configuration_of<'c>(
@@ -203,12 +191,17 @@ pub fn with_children(alloc: Global, node: &Term, children: Items<Term>) -> Resul
 }
 
 /// What takes the place of a node without children by its rule; without one it stays.
-pub fn by_rule(alloc: Global, rules: &Rules, path: &[u8], node: &Term) -> Result<Term, NoMemory>
+pub fn by_rule(
+    alloc: Global,
+    rules: &Lookup<'_>,
+    path: &[u8],
+    node: &Term,
+) -> Result<Term, NoMemory>
     ensures { IfOk result (λ term. term ≡ by_rule rules.now.configurations (rule_of rules.now.rules path.now)
         (with_children (out-Term node.now) [])) }
 {
-    match rule_of(rules.rules.list(), path) {
-        Some(rule) => by_name(alloc, rules.configurations.list(), &rule.replacement, node),
+    match rules.rule_of(path) {
+        Some(rule) => by_name(alloc, rules.configurations(), &rule.replacement, node),
         None => with_children(alloc, node, Items::of(Vec::new(alloc))),
     }
 }

@@ -2,4 +2,4 @@
 
 mod matching;
 
-pub use matching::is_match;
+pub use matching::{alike, follows, is_match, plain_len};

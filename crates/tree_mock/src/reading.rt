@@ -4,9 +4,11 @@ ghost use Rattle.serde_json.specs.View.{members_view, view};
 ghost use Rattle.base_texts.specs.Stops.{Gives};
 ghost use Rattle.tree_build.specs.Gives.{GivesSeen};
 ghost use Rattle.tree_mock.specs.FitRules.{RulesFit};
-ghost use Rattle.spec_tree_file.specs.RuleFiles.{configuration_in, delay_in, document_in, draft_in, each, json_of, members_in, object_in, rule_in, rules_in, said, status_in, status_named, text_in, value_of, with_text};
+ghost use Rattle.spec_tree_file.specs.ReadSteps.{go_on};
+ghost use Rattle.spec_tree_file.specs.RuleFiles.{configuration_in, delay_in, document_in, draft_in, each, members_in, object_in, rule_in, rules_in, said, status_in, status_named, text_in, with_text};
 ghost use Rattle.tree_mock.specs.Seen.{draft_seen, members_seen};
 
+use crate::asked::json_in;
 use crate::names::name_of;
 use base_texts::{Items, Name, Shared, Stop};
 use serde_json::{Map, Value};
@@ -229,15 +231,11 @@ fn document_in(alloc: Global, document: &Map<String, Value>) -> Result<Rules, St
     })
 }
 
-/// The value of a JSON text. The fault `Json` where the bytes are none.
-fn json_in(alloc: Global, bytes: &[u8]) -> Result<Value, Stop<MockFault>>
-    ensures { GivesSeen view result (value_of (json_of bytes.now)) }
+/// The rules of a JSON value, or the first fault.
+fn value_in(alloc: Global, value: &Value) -> Result<Rules, Stop<MockFault>>
+    ensures { Gives result (go_on document_in (members_in [] (as_object (view value.now)))) }
 {
-    match Value::from_slice(alloc, bytes) {
-        Ok(value) => Ok(value),
-        Err(e) if e.is_memory() => Err(Stop::NoMemory),
-        Err(_) => Err(Stop::Fault(MockFault::Json)),
-    }
+    document_in(alloc, members_in(alloc, value)?)
 }
 
 /// The rules of a JSON text, or its first fault: the bytes, the document and its two members, then the configurations by
@@ -248,5 +246,5 @@ pub fn read_rules(alloc: Global, bytes: &[u8]) -> Result<Rules, Stop<MockFault>>
     ensures fit { IfOk result RulesFit }
 {
     let value = json_in(alloc, bytes)?;
-    document_in(alloc, members_in(alloc, &value)?)
+    value_in(alloc, &value)
 }

@@ -6,6 +6,7 @@ ghost use Rattle.tree_mock.specs.FitRules.{RulesFit};
 ghost use Rattle.spec_tree_file.specs.Substitutions.{by_rule, inside, replaced, rule_of, substitute, with_children, with_mocks};
 
 use crate::limits::within_limits;
+use crate::lookup::Lookup;
 use crate::nodes::{by_rule, with_children};
 use base_texts::{Boxed, Items, Name, NoMemory, Stop};
 use spec_tree::{Kind, Term, Tree};
@@ -44,7 +45,7 @@ pub fn add_term(terms: &mut Vec<Term>, term: Boxed<Term>) -> Result<(), NoMemory
 #[inline(never)]
 fn leaf_replaced(
     alloc: Global,
-    rules: &Rules,
+    rules: &Lookup<'_>,
     node: &Term,
     above: &[u8],
 ) -> Result<Boxed<Term>, NoMemory>
@@ -69,7 +70,7 @@ fn over_children(alloc: Global, node: &Term, children: Items<Term>) -> Result<Bo
 #[cycle(terms)]
 fn all_replaced(
     alloc: Global,
-    rules: &Rules,
+    rules: &Lookup<'_>,
     terms: &[Term],
     above: &[u8],
 ) -> Result<Items<Term>, NoMemory>
@@ -87,7 +88,7 @@ fn all_replaced(
 #[cycle(terms)]
 fn children_replaced(
     alloc: Global,
-    rules: &Rules,
+    rules: &Lookup<'_>,
     node: &Term,
     above: &[u8],
 ) -> Result<Items<Term>, NoMemory>
@@ -108,7 +109,7 @@ fn children_replaced(
 #[cycle(terms)]
 fn replaced(
     alloc: Global,
-    rules: &Rules,
+    rules: &Lookup<'_>,
     term: &Term,
     above: &[u8],
 ) -> Result<Boxed<Term>, NoMemory>
@@ -128,7 +129,8 @@ pub fn substitute(alloc: Global, tree: &Tree, rules: &Rules) -> Result<Tree, Sto
     ensures gives { Gives result (substitute tree.now rules.now) }
     ensures runnable { IsRunnable tree.now → RulesFit rules.now → IfOk result IsRunnable }
 {
-    let term = replaced(alloc, rules, &tree.term, &[])?.into_inner();
+    let lookup = Lookup::of(alloc, rules)?;
+    let term = replaced(alloc, &lookup, &tree.term, &[])?.into_inner();
     let main = tree.main.copy(alloc)?;
     within_limits(alloc, Tree { main, term })
 }

@@ -7,22 +7,18 @@ use Rattle.std.proofs.lemmas.List.{take-append-drop}
 use Rattle.std.proofs.lemmas.List.Sums.{prefix_len-le-length}
 use Rattle.std.proofs.lemmas.Slice.Eq.{bytes_eq-Decides}
 use Rattle.std.specs.Prelude.{if◌then◌else◌}
-use Rattle.std.specs.List.{ends_with, prefix_len}
+use Rattle.std.specs.List.{ends_with}
 use Rattle.std.specs.Str.{bytes_eq}
 use Rattle.memchr.specs.Find.{Nowhere, OccursAt}
 use Rattle.memchr.proofs.lemmas.MatchLemmas.{OccursAt-from_part, OccursAt-split}
 use Rattle.spec_tree_file.specs.Patterns.{begins, is_empty, is_star, matches, some_end}
-use Rattle.tree_mock.specs.Patterns.{is_plain}
+use Rattle.tree_mock.specs.Patterns.{before_star, is_plain}
 use Rattle.tree_mock.proofs.AboutPatterns.Ends.{End-within, some_end-after, some_end-found}
 use Rattle.tree_mock.proofs.AboutPatterns.Stars.{begun, itself}
 
 pub ruleset prefixes = prefix_len-le-length
 
 -- ---- Up to the first star
-
--- how many bytes come before the first star
-abbrev pub before_star : List ℕ → ℕ
-before_star bytes = prefix_len (λ byte. not (is_star byte)) bytes
 
 take_one_more : (n : ℕ) (x : ℕ) (xs : List ℕ) → take (1 + n) (x ∷ xs) ≡ x ∷ take n xs
 take_one_more n x xs = grind (arith, common_steps)
@@ -52,6 +48,15 @@ pub star_after : (xs : List ℕ) → before_star xs < length xs → drop (before
 star_after [] less = absurd (omega (arith, less))
 star_after (x ∷ xs) less = star_if x xs (not (is_star x)) refl (star_after xs) less
 
+unstarred_if : (x : ℕ) (xs : List ℕ) (b : Bool) → not (is_star x) ≡ b → before_star (drop (before_star xs) xs) ≡ 0 → before_star (drop (cond b (1 + before_star xs) 0) (x ∷ xs)) ≡ 0
+unstarred_if x xs true e ih = rw drop_one_more ih
+unstarred_if x xs false e ih = ap (λ (b : Bool). cond b (1 + before_star xs) 0) e
+
+-- so no byte comes before the first star of what is left
+pub unstarred : (xs : List ℕ) → before_star (drop (before_star xs) xs) ≡ 0
+unstarred [] = refl
+unstarred (x ∷ xs) = unstarred_if x xs (not (is_star x)) refl (unstarred xs)
+
 -- ---- Plain bytes stand for themselves
 
 first_half : (a b : Bool) → (a && b) ≡ true → a ≡ true
@@ -67,7 +72,7 @@ not_true true h = absurd (cc)
 not_true false h = refl
 
 -- a text that matches begins with the bytes before the first star
-passed_first : (passed pattern text : List ℕ) → is_plain passed ≡ true → matches (passed ++ pattern) text ≡ true → (rest : List ℕ) × (text ≡ passed ++ rest) × (matches pattern rest ≡ true)
+pub passed_first : (passed pattern text : List ℕ) → is_plain passed ≡ true → matches (passed ++ pattern) text ≡ true → (rest : List ℕ) × (text ≡ passed ++ rest) × (matches pattern rest ≡ true)
 passed_first [] pattern text p h = (text, refl, h)
 passed_first (byte ∷ passed) pattern text p h =
     let star : is_star byte ≡ false = not_true (is_star byte) (first_half (not (is_star byte)) (is_plain passed) p) in
@@ -91,7 +96,7 @@ same_bool true b there back = sym (there refl)
 same_bool false true there back = back refl
 same_bool false false there back = refl
 
-false_from : (a : Bool) → (a ≡ true → ⊥) → a ≡ false
+pub false_from : (a : Bool) → (a ≡ true → ⊥) → a ≡ false
 false_from true h = absurd (h refl)
 false_from false h = refl
 
@@ -285,13 +290,12 @@ passed_left left text piece more rest count counted piece_is more_is same rest_i
     ∙ sym (front_same piece more text (plain_piece left piece more count cut) same)
     ∙ ap (λ (p : List ℕ). matches p text) (whole left piece more count cut)
 
-pub star_left : (left text piece more next rest : List ℕ) (star count : ℕ) → count ≡ before_star left → piece ≡ take count left → more ≡ drop count left → more ≡ star ∷ next
-    → bytes_eq (take (length piece) text) piece ≡ true → rest ≡ drop (length piece) text → some_end (matches next) rest ≡ matches left text
-star_left left text piece more next rest star count counted piece_is more_is is same rest_is =
-    let cut : Cut left piece more count = record { counted = counted; piece_is = piece_is; more_is = more_is } in
-    ap (matches (42 ∷ next)) rest_is
-    ∙ sym (front_same piece (42 ∷ next) text (plain_piece left piece more count cut) same)
-    ∙ ap (λ (p : List ℕ). matches p text) (starred left piece more next star count cut is)
+pub star_left : (pattern next text : List ℕ) (star : ℕ) → before_star pattern ≡ 0 → pattern ≡ star ∷ next → some_end (matches next) text ≡ matches pattern text
+star_left pattern next text star none is =
+    let some : before_star pattern < length pattern = omega (arith, none, ap (λ (t : List ℕ). length t) is) in
+    let begun : pattern ≡ 42 ∷ drop 1 pattern = sym (ap (λ (n : ℕ). drop n pattern) none) ∙ star_after pattern some ∙ ap (λ (n : ℕ). 42 ∷ drop (1 + n) pattern) none in
+    let rest : next ≡ drop 1 pattern = same_tail star 42 next (drop 1 pattern) (sym is ∙ begun) in
+    ap (λ (t : List ℕ). some_end (matches t) text) rest ∙ sym (ap (λ (p : List ℕ). matches p text) begun)
 
 eq_from_test : (a b : ℕ) → (a == b) ≡ true → a ≡ b
 eq_from_test a b h = grind (arith, nat_tests)

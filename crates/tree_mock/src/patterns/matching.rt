@@ -1,7 +1,7 @@
-ghost use Rattle.std.specs.Prelude.{◌≡◌, ◌≤◌, IsTrue, length, not};
-ghost use Rattle.std.specs.List.{prefix_len};
+ghost use Rattle.std.specs.Prelude.{◌≡◌, ◌≤◌, IsTrue, length, nat_eq, not};
+ghost use Rattle.std.specs.List.{common_prefix_len};
 ghost use Rattle.spec_tree_file.specs.Patterns.{is_star, matches, some_end};
-ghost use Rattle.tree_mock.specs.Patterns.{Matches};
+ghost use Rattle.tree_mock.specs.Patterns.{Matches, before_star};
 
 use memchr::memmem;
 
@@ -14,11 +14,23 @@ fn plain_byte(byte: u8) -> bool
 
 /// How many bytes of a pattern come before its first star, or how many it has where it has none.
 #[tactic(auto, using(crate::proofs::AboutPatterns::Pieces::prefixes))]
-fn plain_len(pattern: &[u8]) -> usize
-    ensures value { result ≡ prefix_len (λ byte. not (is_star byte)) pattern.now }
+pub fn plain_len(pattern: &[u8]) -> usize
+    ensures value { result ≡ before_star pattern.now }
     ensures within { result ≤ length pattern.now }
 {
     pattern.iter().take_while(|byte| plain_byte(**byte)).count()
+}
+
+/// How many bytes two texts begin with alike.
+pub fn alike(text: &[u8], other: &[u8]) -> usize
+    ensures value { result ≡ common_prefix_len nat_eq text.now other.now }
+    ensures within { result ≤ length text.now }
+{
+    let mut count = 0;
+    while count < text.len() && count < other.len() && text[count] == other[count] {
+        count += 1;
+    }
+    count
 }
 
 /// Whether the pattern matches some end of the text. What stands between two stars is looked for where it occurs first:
@@ -43,17 +55,25 @@ fn matches_end(pattern: &[u8], text: &[u8]) -> bool
     }
 }
 
+/// Whether a pattern that is empty or begins with a star matches the text.
+pub fn follows(pattern: &[u8], text: &[u8]) -> bool
+    requires { before_star pattern.now ≡ 0 }
+    ensures { result ≡ matches pattern.now text.now }
+{
+    match pattern.split_first() {
+        Some((_, next)) => matches_end(next, text),
+        None => text.is_empty(),
+    }
+}
+
 /// Whether the text begins as the pattern does up to its first star, and what follows matches what comes after that.
 fn passes(pattern: &[u8], text: &[u8]) -> bool
     ensures { result ≡ matches pattern.now text.now }
 {
     let (piece, more) = pattern.split_at(plain_len(pattern));
-    let Some(rest) = text.strip_prefix(piece) else {
-        return false;
-    };
-    match more.split_first() {
-        Some((_, next)) => matches_end(next, rest),
-        None => rest.is_empty(),
+    match text.strip_prefix(piece) {
+        Some(rest) => follows(more, rest),
+        None => false,
     }
 }
 
