@@ -1,6 +1,7 @@
 pub mod Climbed
 pub mod Elements
 pub mod Listed
+pub mod OwnConflicts
 pub mod Raised
 pub mod Swaps
 pub mod Threats

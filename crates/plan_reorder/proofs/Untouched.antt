@@ -133,7 +133,7 @@ module _ (t : PlanTree) (part : Part) (read old new : List Bool)
 
 -- ---- Where a child stands
 
-around : (keys : List ℕ) (i : ℕ) → i < length keys → keys ≡ take i keys ++ get_or keys i 0 ∷ drop (suc i) keys
+pub around : (keys : List ℕ) (i : ℕ) → i < length keys → keys ≡ take i keys ++ get_or keys i 0 ∷ drop (suc i) keys
 around [] i within = absurd (omega (arith, within))
 around (k ∷ keys) zero within = refl
 around (k ∷ keys) (suc i) within = ap (λ (l : List ℕ). k ∷ l) (around keys i (omega (arith, within)))

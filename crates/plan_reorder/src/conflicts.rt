@@ -1,11 +1,11 @@
 //! The first conflict of a plan tree.
 
-ghost use Rattle.std.specs.Prelude.{◌≡◌, ◌≤◌, ℕ, Option, Some, [], ◌∷◌, length, option_map, slice_get};
+ghost use Rattle.std.specs.Prelude.{◌≡◌, ◌≤◌, ℕ, Option, Some, [], ◌∷◌, length, option_map, slice_get, is_some, IsSome, IsTrue};
 ghost use Rattle.std.specs.List.{find};
 ghost use Rattle.slab.specs.Slab.{get};
 ghost use Rattle.spec_world.specs.declared.world.World.{World};
 ghost use Rattle.plan_tree.specs.declared.node.Node.{Node};
-ghost use Rattle.spec_plan.specs.Forests.{Forest, Place, place_of};
+ghost use Rattle.spec_plan.specs.Forests.{Forest, Place, place_of, times};
 ghost use Rattle.plan_tree.specs.Sizes.{height};
 ghost use Rattle.plan_tree.specs.Growth.{rule_effects};
 ghost use Rattle.plan_tree.specs.Stands.{StandsFor};
@@ -16,7 +16,7 @@ ghost use Rattle.plan_reorder.specs.Reads.{AreRead, IsPlaced};
 use crate::heads::head_at;
 use crate::raising::{is_sequence, parent_of, place_among};
 use crate::reads::{PLACES, Read, add_head, touches};
-use plan_tree::{Node, PlanTree, Rule, threatens};
+use plan_tree::{Node, PlanTree, Rule, part_of, threatens};
 use spec_plan::Part;
 use spec_world::Set;
 
@@ -195,4 +195,33 @@ pub fn conflict(t: &PlanTree) -> Option<(usize, usize)>
 {
     let none = [false; PLACES];
     conflict_at(t, t.root, t.nodes.len(), &none, &none)
+}
+
+/// Whether the action of a sequence that was added threatens a head before it, in the sequences above its own: then the
+/// tree has a conflict.
+fn is_threat(t: &PlanTree, sequence: usize) -> bool
+    ensures { IsTrue result → (world : World) (tree : Forest) → StandsFor t.now world tree → 1 ≤ times sequence tree →
+        IsSome (slice_get (conflicts world.rows tree) 0) }
+{
+    let Some(node) = t.nodes.get(sequence) else {
+        return false;
+    };
+    let keys = node.children.as_slice();
+    if keys.is_empty() {
+        return false;
+    }
+    let last = keys[keys.len() - 1];
+    match part_of(t, last) {
+        Some(Part::Action(row)) => own_conflict(t, row, last).is_some(),
+        _ => false,
+    }
+}
+
+/// Whether a plan tree has a conflict. The action of this sequence is looked at first: where the sequence is new, mostly
+/// it is what conflicts, and then no other action is looked at.
+pub fn has_conflict(t: &PlanTree, sequence: usize) -> bool
+    ensures { (world : World) (tree : Forest) → StandsFor t.now world tree → 1 ≤ times sequence tree →
+        result ≡ is_some (slice_get (conflicts world.rows tree) 0) }
+{
+    is_threat(t, sequence) || conflict(t).is_some()
 }

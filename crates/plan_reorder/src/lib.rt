@@ -6,5 +6,5 @@ mod heads;
 mod raising;
 mod reads;
 
-pub use conflicts::conflict;
+pub use conflicts::{conflict, has_conflict};
 pub use raising::raise;

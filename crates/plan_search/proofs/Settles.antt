@@ -1,5 +1,6 @@
 -- Raise after raise.
-use Rattle.std.proofs.Common.{◌≡◌, ℕ, zero, suc, ◌+◌, ◌<◌, ◌≤◌, List, Bool, true, false, Some, MatchBool, refl, ap, sym, ◌∙◌, subst, arith}
+use Rattle.std.proofs.Common.{◌≡◌, ℕ, zero, suc, ◌+◌, ◌<◌, ◌≤◌, List, Bool, true, false, Option, Some, None, MatchBool, refl, ap, sym, ◌∙◌, subst, arith}
+use Rattle.std.specs.Prelude.{is_some}
 use Rattle.spec_world.specs.declared.world.Row.{Row}
 use Rattle.spec_world.specs.declared.world.World.{World}
 use Rattle.spec_plan.specs.declared.part.Part.TheVariants.{Sequence}
@@ -13,6 +14,7 @@ use Rattle.spec_plan.specs.Conflicts.{Pair}
 use Rattle.plan_reorder.specs.Raises.{Raises}
 use Rattle.spec_plan.specs.Raising.{raised}
 use Rattle.spec_plan.specs.Settling.{AreRaises, first_conflict}
+use Rattle.plan_search.specs.Grown.{IsLeft}
 use Rattle.plan_search.proofs.Nearer.{front, front_within, raised_nearer}
 
 -- one raise more
@@ -27,7 +29,7 @@ raised_on rows sequence raises tree now next pair so_far conflict raise =
           (pair, next, ap (first_conflict rows) same ∙ conflict, ap (λ (f : Forest). raised sequence f) same ∙ raise, end)
       go (suc raises) tree (p, mid, is, moved, rest) = (p, mid, is, moved, go raises mid rest)
 
-sequence_counts : (tree : Forest) (sequence : ℕ) → IsSequenceOf tree sequence → 1 ≤ times sequence tree
+pub sequence_counts : (tree : Forest) (sequence : ℕ) → IsSequenceOf tree sequence → 1 ≤ times sequence tree
 sequence_counts tree sequence is = let node = part_node sequence tree (Sequence is.0) is.1 in node_counts sequence tree (Sequence is.0, node.0) node.1
 
 -- what is known of the tree after so many raises
@@ -46,14 +48,37 @@ first_so_far world t tree sequence st is =
     let whole = st.whole in
     record { after = tree; raised = own; stands = st; is = is; many = refl; nearer = omega (arith, within, whole) }
 
-pub next_so_far : (world : World) (first old now : PlanTree) (tree : Forest) (sequence raises : ℕ) (pair : Pair) (s : SoFar world first old tree sequence raises) →
-    Some pair ≡ first_conflict world.rows s.after → Raises now world s.after sequence → SoFar world first now tree sequence (raises + 1)
-next_so_far world first old now tree sequence raises pair s conflict r =
+-- the first conflict, where there is one
+conflict_in : (rows : List Row) (tree : Forest) → is_some (first_conflict rows tree) ≡ true → (pair : Pair) × (first_conflict rows tree ≡ Some pair)
+conflict_in rows tree is = elim (first_conflict rows tree) as (λ (o : Option Pair). is_some o ≡ true → (pair : Pair) × (o ≡ Some pair)) [
+  | Some pair ↦ λ e. (pair, refl)
+  | None ↦ λ e. absurd (cc e)
+] is
+
+-- nothing is left where nothing conflicts
+pub left_none : (world : World) (sequence : ℕ) (tree : Forest) → is_some (first_conflict world.rows tree) ≡ false → IsLeft world sequence tree None
+left_none world sequence tree is = elim (first_conflict world.rows tree) as (λ (o : Option Pair). is_some o ≡ false → o ≡ None) [
+  | Some pair ↦ λ e. absurd (cc e)
+  | None ↦ λ e. refl
+] is
+
+-- .. and the first conflict where no raise is left
+pub left_over : (world : World) (sequence : ℕ) (tree : Forest) (found : Option Pair) → is_some (first_conflict world.rows tree) ≡ true → found ≡ first_conflict world.rows tree → raised sequence tree ≡ None →
+    IsLeft world sequence tree found
+left_over world sequence tree found is same none = elim found as (λ (o : Option Pair). o ≡ first_conflict world.rows tree → IsLeft world sequence tree o) [
+  | Some pair ↦ λ e. (sym e, none)
+  | None ↦ λ e. absurd (cc (sym is, ap (λ (o : Option Pair). is_some o) (sym e)))
+] same
+
+pub next_so_far : (world : World) (first old now : PlanTree) (tree : Forest) (sequence raises : ℕ) (s : SoFar world first old tree sequence raises) →
+    is_some (first_conflict world.rows s.after) ≡ true → Raises now world s.after sequence → SoFar world first now tree sequence (raises + 1)
+next_so_far world first old now tree sequence raises s conflict r =
+    let first_is = conflict_in world.rows s.after conflict in
     let nearer = raised_nearer sequence s.after r.tree_after s.stands.apart.once (sequence_counts s.after sequence s.is) r.is in
     let before = s.nearer in
     record {
       after = r.tree_after;
-      raised = raised_on world.rows sequence raises tree s.after r.tree_after pair s.raised (sym conflict) r.is;
+      raised = raised_on world.rows sequence raises tree s.after r.tree_after first_is.0 s.raised first_is.1 r.is;
       stands = r.stands;
       is = (s.is.0, r.kept sequence (Sequence s.is.0) s.is.1);
       many = r.many ∙ s.many;

@@ -109,7 +109,7 @@ module _ (world : World) (limits : Limits) (f : Forest) (tree : Planned) (planne
     pub decides : (verdict : Verdict) → tried.verdict ≡ verdict → Decides world limits own verdict
     decides verdict is = let e = ends_of (Ok tried) ends in record { unbroken = e.0.ends; last = e.1 ∙ ap (λ (v : Verdict). Some v) is }
 
-    pub notes_are : tried.block.notes.list ≡ last_notes world limits own
+    pub notes_are : tried.blocks.ticked.notes.list ≡ last_notes world limits own
     notes_are = ap (λ (b : Shown). b.notes) (ends_of (Ok tried) ends).2
 
     pub drivers_are : after ≡ drivers_after world limits (own ∷ []) before

@@ -17,13 +17,28 @@ use crate::growing::grow;
 use crate::task::PlanTask;
 use base_texts::{Items, NoMemory, Stop};
 use plan_tree::{PlanTree, plan_tree_of, tree_from};
-use plan_trial::{modelled, run_tree, task_of};
+use plan_trial::{Blocks, modelled, run_tree, task_of};
 use run_driver::Drivers;
 use spec_plan::{End, Limits, Pace, PlanEnd, Step, Verdict};
 use spec_run::RunFault;
 use spec_tree::Tree;
 use spec_world::World;
 use std::alloc::Global;
+
+/// What the run of a tree leaves to the next one.
+#[derive(Drop)]
+struct Earlier {
+    tree: Tree,
+    blocks: Blocks,
+}
+
+/// What an earlier run left, apart.
+fn apart(earlier: Option<Earlier>) -> (Option<Tree>, Option<Blocks>) {
+    match earlier {
+        Some(Earlier { tree, blocks }) => (Some(tree), Some(blocks)),
+        None => (None, None),
+    }
+}
 
 /// How planning goes on where a modelled run was stopped: it ends, or memory was wanting.
 fn stopped(stop: Stop<RunFault>) -> Result<Option<End>, NoMemory>
@@ -43,7 +58,7 @@ fn stopped(stop: Stop<RunFault>) -> Result<Option<End>, NoMemory>
 fn go_on<D: Drivers>(
     world: &World,
     task: &PlanTask,
-    earlier: &mut Option<Tree>,
+    earlier: &mut Option<Earlier>,
     t: &mut PlanTree,
     steps: &mut Vec<Step>,
     drivers: &mut D,
@@ -62,8 +77,9 @@ fn go_on<D: Drivers>(
     ensures roster { IsSameRoster (D.states drivers.old) (D.states drivers.new) }
 {
     let alloc = task.runs.alloc;
-    let tree = tree_from(alloc, t, world, earlier.take())?;
-    let tried = match run_tree(&tree, &task.runs, drivers) {
+    let (tree, blocks) = apart(earlier.take());
+    let tree = tree_from(alloc, t, world, tree)?;
+    let tried = match run_tree(&tree, &task.runs, blocks, drivers) {
         Ok(tried) => tried,
         Err(stop) => {
             drop(tree);
@@ -77,10 +93,10 @@ fn go_on<D: Drivers>(
             Ok(Some(End::Reached { tree, tick }))
         }
         Verdict::Fails => {
-            *earlier = Some(tree);
-            let notes = tried.block.notes.list();
+            let blocks = tried.blocks;
+            let notes = blocks.ticked.notes.list();
             let ended = grow(alloc, world, &task.limits, notes, t, steps);
-            drop(tried);
+            *earlier = Some(Earlier { tree, blocks });
             ended
         }
         Verdict::GoesOn => {

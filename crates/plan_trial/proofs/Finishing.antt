@@ -1,5 +1,5 @@
 -- A modelled run as a whole: its ticks, and then its finish.
-use Rattle.std.proofs.Common.{◌≡◌, inl, inr, ℕ, ◌+◌, ◌<◌, List, [], ◌++◌, None, Result, Ok, Err, refl, sym, ap, subst, ◌∙◌, append-nil, arith}
+use Rattle.std.proofs.Common.{◌≡◌, inl, inr, ℕ, ◌+◌, ◌<◌, List, [], ◌++◌, Some, None, Result, Ok, Err, refl, sym, ap, subst, ◌∙◌, append-nil, arith}
 use Rattle.std.specs.Result.{IsErrAnd}
 use Rattle.std.proofs.lemmas.Bool.{cases_eq}
 use Rattle.base_texts.specs.declared.stop.Stop.{Stop}
@@ -18,12 +18,13 @@ use Rattle.spec_output.specs.Rounds.{nothing_more}
 use Rattle.text_trace.proofs.Cuts.{cut_after, cut_has_begun_within, event_cut, over_both}
 use Rattle.spec_plan.specs.declared.pace.Pace.{Pace}
 use Rattle.plan_trial.specs.declared.ticking.Ticked.{Ticked}
+use Rattle.run_arena.specs.Blocks.{seen}
 use Rattle.plan_trial.specs.declared.trying.Tried.{Tried}
 use Rattle.spec_plan.specs.declared.verdict.Verdict.TheVariants.{GoesOn}
-use Rattle.spec_plan.specs.Modelled.{IsLast, modelled, modelled_run, next_tick, state_after}
+use Rattle.spec_plan.specs.Modelled.{IsLast, modelled, modelled_run, next_tick, state_after, verdict_after}
 use Rattle.plan_trial.specs.Ticked.{HasTicked, IsAfter, TicksEnd}
 use Rattle.plan_trial.specs.Ticking.{alone, calls_after}
-use Rattle.plan_trial.specs.Tried.{RunEnds}
+use Rattle.plan_trial.specs.Tried.{IsRun, RunEnds}
 use Rattle.plan_trial.proofs.Ticks.{cut_as, nothing_follows}
 use Rattle.plan_trial.proofs.Traces.{Whole, broke, decided_none, ran}
 
@@ -94,7 +95,7 @@ module _ (of : Setup) (pace : Pace) (opened : Runs) (before : List DriverState) 
           ∙ sym (over_both (arenas_of opened) calls own.calls before) ∙ ap called (sym whole.calls_are)
 
       -- the finish was made
-      pub finished : Made (Ok tt) → RunEnds (Ok (record { before = t.before; verdict = t.verdict; block = block })) of pace called before after
+      pub finished : Made (Ok tt) → IsRun of pace t.before None called after × (verdict_after of.tree of.world pace.period t.before ≡ Some t.verdict) × (seen block ≡ (next_tick of.tree of.world pace.period t.before).block)
       finished made =
           let ends = here (Ok tt) made in
           (record { last = last; ends = whole.fault_is ∙ ends.0; drivers = drivers_all ends.1.drivers }, ticked.decided, ticked.shown)

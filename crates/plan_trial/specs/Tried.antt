@@ -24,7 +24,7 @@ abbrev pub RunEnds : Result Tried (Stop RunFault) → Setup → Pace → (List R
 RunEnds (Ok t) of pace called before after =
     IsRun of pace t.before None called after
     × (verdict_after of.tree of.world pace.period t.before ≡ Some t.verdict)
-    × (seen t.block ≡ (next_tick of.tree of.world pace.period t.before).block)
+    × (seen t.blocks.ticked ≡ (next_tick of.tree of.world pace.period t.before).block)
 RunEnds (Err (stop.Fault fault)) of pace called before after = (n : ℕ) × IsRun of pace n (Some fault) called after
 RunEnds (Err stop.NoMemory) of pace called before after =
     HaveSameTotals before after

@@ -1,12 +1,14 @@
 //! The run of a tree in the modelled world, and what decides it.
 #![tactic(auto)]
 
+mod blocks;
 mod copying;
 mod goals;
 mod task;
 mod ticking;
 mod trying;
 
+pub use blocks::Blocks;
 pub use copying::modelled;
 pub use task::{Task, task_of};
 pub use trying::{Tried, run_tree};

@@ -14,10 +14,10 @@ ghost use Rattle.plan_trial.specs.Tasks.{IsTaskOf, LacksNothing, NamesNothing};
 ghost use Rattle.plan_trial.specs.Ticked.{IsAfter};
 ghost use Rattle.plan_trial.specs.Tried.{RunEnds};
 
+use crate::blocks::{Blocks, blocks_for};
 use crate::task::Task;
 use crate::ticking::make_ticks;
 use base_texts::{NoMemory, Stop};
-use run_arena::{Block, block_for};
 use run_driver::Drivers;
 use run_loop::{Runs, leaves, make_planned_runs, run_finish};
 use spec_plan::Verdict;
@@ -25,13 +25,13 @@ use spec_run::RunFault;
 use spec_tree::Tree;
 use tree_board::no_slots;
 
-/// A modelled run without a fault: what its last tick decided, with the block of this tick.
+/// A modelled run without a fault: what its last tick decided, with the blocks of this tick and of the finish.
 #[derive(Drop)]
 pub struct Tried {
     /// How many ticks came before the last one.
     pub before: u32,
     pub verdict: Verdict,
-    pub block: Block,
+    pub blocks: Blocks,
 }
 
 /// The runs of a tree that names nothing in the modelled world, before the first tick. All its leaves
@@ -57,11 +57,12 @@ fn begin<D: Drivers>(tree: &Tree, task: &Task, drivers: &mut D) -> Result<Runs, 
     make_planned_runs(task.alloc, tree, &slots, &task.world, drivers)
 }
 
-/// Makes the ticks of a modelled run and then finishes it. The error is the fault of a node, or want of
+/// Makes the ticks of a modelled run and then finishes it, in the blocks of an earlier run where these do. The error is the fault of a node, or want of
 /// memory. In the end no driver holds anything, whatever is answered.
 fn make_run<D: Drivers>(
     task: &Task,
     mut runs: Runs,
+    spare: Option<Blocks>,
     drivers: &mut D,
 ) -> Result<Tried, Stop<RunFault>>
     ghost of: { Setup }
@@ -75,22 +76,23 @@ fn make_run<D: Drivers>(
     ensures roster { IsSameRoster (D.states drivers.old) (D.states drivers.new) }
 {
     let count = leaves(&runs) as u32;
-    let mut block = block_for(task.alloc, count)?;
-    let mut last = block_for(task.alloc, count)?;
-    let ticked = make_ticks(task, &mut runs, drivers, &mut block)?;
-    run_finish(task.alloc, &mut runs, 1, drivers, &mut last)?;
+    let mut blocks = blocks_for(task.alloc, count, spare)?;
+    let ticked = make_ticks(task, &mut runs, drivers, &mut blocks.ticked)?;
+    run_finish(task.alloc, &mut runs, 1, drivers, &mut blocks.finished)?;
     Ok(Tried {
         before: ticked.before,
         verdict: ticked.verdict,
-        block,
+        blocks,
     })
 }
 
-/// Runs a tree that names nothing in the modelled world, with the drivers prepared anew. The error is
-/// the fault of a node, or want of memory. In the end no driver holds anything, whatever is answered.
+/// Runs a tree that names nothing in the modelled world, with the drivers prepared anew, in the blocks of an earlier run
+/// where these do. The error is the fault of a node, or want of memory. In the end no driver holds anything, whatever is
+/// answered.
 pub fn run_tree<D: Drivers>(
     tree: &Tree,
     task: &Task,
+    spare: Option<Blocks>,
     drivers: &mut D,
 ) -> Result<Tried, Stop<RunFault>>
     ghost of: { Setup }
@@ -106,5 +108,5 @@ pub fn run_tree<D: Drivers>(
     ensures roster { IsSameRoster (D.states drivers.old) (D.states drivers.new) }
 {
     let runs = begin(tree, task, drivers)?;
-    make_run(task, runs, drivers)
+    make_run(task, runs, spare, drivers)
 }

@@ -1,11 +1,14 @@
 -- Rows that are found by their IDs, one after the other.
-use Rattle.std.proofs.Common.{◌≡◌, ℕ, ◌+◌, ◌<◌, List, [], ◌∷◌, true, false, Option, Some, None, length, drop, get_or, if◌then◌else◌, refl, sym, ap, subst, ◌∙◌}
+use Rattle.std.proofs.Common.{◌≡◌, ℕ, zero, suc, ◌+◌, ◌<◌, Bool, List, [], ◌∷◌, map, true, false, Option, Some, None, length, drop, get_or, if◌then◌else◌, refl, sym, ap, subst, ◌∙◌}
 use Rattle.std.proofs.lemmas.List.{drop_more}
 use Rattle.std.proofs.lemmas.Option.{slice_get_read}
+use Rattle.std.proofs.lemmas.Slice.Eq.{bytes_eq-Decides}
+use Rattle.std.specs.List.{AllByRecursion, IsDistinct}
 use Rattle.std.specs.Option.{option_or}
 use Rattle.std.specs.Str.{bytes_eq}
 use Rattle.std.specs.Prelude.{slice_get}
 use Rattle.spec_world.specs.declared.world.Row.{Row}
+use Rattle.spec_world.specs.Worlds.{ids_of_rows}
 use Rattle.spec_run.specs.Leaves.{row_of}
 use Rattle.run_arena.specs.Rows.{row_by}
 
@@ -39,3 +42,23 @@ finds_more rows number given row old new within is_row same added found id =
 pub none_left : (rows left : List Row) (number : Option ℕ) (id : List ℕ) → left ≡ [] → found_or number rows left id ≡ row_of rows id → row_by rows number ≡ row_of rows id
 none_left rows left (Some number) id none found = found
 none_left rows left None id none found = subst (λ (ls : List Row). row_of ls id ≡ row_of rows id) none found
+
+-- ---- IDs that differ
+
+all_rows : (P : List ℕ → Type 0) (rows : List Row) (number : ℕ) (row : Row) → AllByRecursion P (map (λ (r : Row). r.id) rows) → slice_get rows number ≡ Some row → P row.id
+all_rows P [] number row all is = absurd (cc is)
+all_rows P (r ∷ rows) zero row all is = let same : r ≡ row = cc is in subst (λ (x : Row). P x.id) same all.0
+all_rows P (r ∷ rows) (suc number) row all is = all_rows P rows number row all.1 is
+
+-- where no two rows have one ID, a row that has it is that of the ID
+pub found_there : (rows : List Row) (number : ℕ) (row : Row) (id : List ℕ) → IsDistinct bytes_eq (ids_of_rows rows) → slice_get rows number ≡ Some row → bytes_eq row.id id ≡ true → slice_get rows number ≡ row_of rows id
+unfolding IsDistinct
+found_there [] number row id apart is same = absurd (cc is)
+found_there (r ∷ rows) zero row id apart is same =
+    let first : r ≡ row = cc is in
+    ap (λ (b : Bool). if b then Some r else row_of rows id) (sym (ap (λ (x : Row). bytes_eq x.id id) first ∙ same))
+found_there (r ∷ rows) (suc number) row id apart is same =
+    let other : bytes_eq r.id row.id ≡ false = all_rows (λ (x : List ℕ). bytes_eq r.id x ≡ false) rows number row apart.0 is in
+    let own : row.id ≡ id = (bytes_eq-Decides row.id id).0 same in
+    found_there rows number row id apart.1 is same
+    ∙ ap (λ (b : Bool). if b then Some r else row_of rows id) (sym (ap (bytes_eq r.id) (sym own) ∙ other))

@@ -12,6 +12,7 @@ use indexmap::IndexMap;
 use run_driver::{ReadyRow, ready};
 use spec_world::{Fact, Row, World};
 use std::alloc::Global;
+use std::cell::Cell;
 use std::marker::Model;
 
 /// What stands at a number, where there are so many.
@@ -35,12 +36,18 @@ pub struct IndexedWorld<'a> {
     world: &'a World,
     numbers: IndexMap<Name, u32>,
     ready: Items<Shared<ReadyRow>>,
+    /// For each row the number of the one that was looked for after it, the last time.
+    after: Vec<Cell<u32>>,
+    /// The number of the row that was looked for last.
+    last: Cell<u32>,
 }
 
 impl<'a> Model for IndexedWorld<'a> {
+    ghost use Rattle.std.specs.List.{IsDistinct};
     ghost use Rattle.std.specs.Str.{bytes_eq};
     ghost use Rattle.indexmap.specs.IndexMap.{get};
     ghost use Rattle.spec_world.specs.declared.world.World.{World as Whole};
+    ghost use Rattle.spec_world.specs.Worlds.{ids_of_rows};
     ghost use Rattle.run_arena.specs.Rows.{AreReady, Finds};
     ghost use Rattle.spec_script.specs.contracts.syntax.Expr as expr;
     ghost use Rattle.std.specs.Coded.{codes};
@@ -51,13 +58,15 @@ impl<'a> Model for IndexedWorld<'a> {
 
     ghost view = { λ it. it.world.now };
 
-    ghost invariant = { λ it. Finds it.world.now.rows (get bytes_eq it.numbers) × AreReady it.world.now.facts it.world.now.rows it.ready };
+    ghost invariant = { λ it. Finds it.world.now.rows (get bytes_eq it.numbers)
+        × AreReady it.world.now.facts it.world.now.rows it.ready
+        × IsDistinct bytes_eq (ids_of_rows it.world.now.rows) };
 }
 
 impl<'a> IndexedWorld<'a> {
-    ghost use Rattle.std.specs.Prelude.{◌≡◌, None, Some, MatchOption};
+    ghost use Rattle.std.specs.Prelude.{◌≡◌, IsTrue, None, Some, MatchOption};
     ghost use Rattle.spec_run.specs.Leaves.{row_of};
-    ghost use Rattle.run_arena.specs.Rows.{IsReadyRow};
+    ghost use Rattle.run_arena.specs.Rows.{IsReadyRow, row_by};
 
     /// Lends the world.
     pub fn world(&self) -> &World
@@ -66,12 +75,43 @@ impl<'a> IndexedWorld<'a> {
         self.world
     }
 
+    /// Whether the row of this number has this ID.
+    fn has_id(&self, number: u32, id: &Name) -> bool
+        ensures { IsTrue result → row_by self.now.rows (Some number) ≡ row_of self.now.rows id.now }
+    {
+        match at(self.world.rows.list(), number) {
+            Some(row) => row.id == *id,
+            None => false,
+        }
+    }
+
+    /// The number of the row of an ID. A tree that is laid again mostly wants its rows in the same order, so the row
+    /// that came next the last time is looked at first, and an ID is hashed only where that row has another one.
+    fn number_of(&self, id: &Name) -> Option<u32>
+        ensures { row_by self.now.rows result ≡ row_of self.now.rows id.now }
+    {
+        let after = at(self.after.as_slice(), self.last.get());
+        if let Some(next) = after {
+            let guess = next.get();
+            if self.has_id(guess, id) {
+                self.last.set(guess);
+                return Some(guess);
+            }
+        }
+        let number = *self.numbers.get(id)?;
+        if let Some(next) = after {
+            next.set(number);
+        }
+        self.last.set(number);
+        Some(number)
+    }
+
     /// The row of an ID, with what is ready of it; none where there is no such row.
     pub(crate) fn find(&self, id: &Name) -> Option<FoundRow>
         ensures { MatchOption result (row_of self.now.rows id.now ≡ None) (λ found.
             (row_of self.now.rows id.now ≡ Some found.row.now) × IsReadyRow self.now.facts found.row.now found.ready.now) }
     {
-        let number = *self.numbers.get(id)?;
+        let number = self.number_of(id)?;
         let row = at(self.world.rows.list(), number)?;
         let ready = at(self.ready.list(), number)?;
         Some(FoundRow { row, ready })
@@ -126,6 +166,15 @@ fn ready_rows(
     Ok(Items::of(all))
 }
 
+/// For each of so many rows the first one, as that which comes next, or want of memory.
+fn first_after(alloc: Global, rows: usize) -> Result<Vec<Cell<u32>>, NoMemory> {
+    let mut after = Vec::with_capacity(alloc, rows)?;
+    for _ in 0..rows {
+        after.push(Cell::new(0))?;
+    }
+    Ok(after)
+}
+
 /// A world, made ready for the arenas that are made for it. The error is want of memory.
 pub fn index_world(alloc: Global, world: &World) -> Result<IndexedWorld, NoMemory>
     requires { IsRunnableWorld world.now }
@@ -136,5 +185,7 @@ pub fn index_world(alloc: Global, world: &World) -> Result<IndexedWorld, NoMemor
         world,
         numbers: index_of(alloc, rows)?,
         ready: ready_rows(alloc, rows, world.facts.list())?,
+        after: first_after(alloc, rows.len())?,
+        last: Cell::new(0),
     })
 }

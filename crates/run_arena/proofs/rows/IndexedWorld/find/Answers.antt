@@ -10,18 +10,19 @@ use Rattle.run_arena.proofs.rows.IndexedWorld.find.Goals as goal
 pub returns-in_err-ready : goal.returns-in_err-ready
 returns-in_err-ready c =
     let world = c.self.inside.world.now in
-    let row_is : slice_get world.rows c.in_ok-number.field-0.now ≡ Some c.in_ok-row.row.now = cc (c.in_ok-row.ensures, c.list.ensures) in
+    let row_is : slice_get world.rows c.in_ok-number.number ≡ Some c.in_ok-row.row.now = cc (c.in_ok-row.ensures, c.list.ensures) in
     absurd (subst (λ (o : Option ReadyRow). MatchOption o ⊥ (IsReadyRow world.facts c.in_ok-row.row.now)) {y = None} (cc (c.in_err-ready.ensures, c.list-2.ensures))
-    (ready_at world.facts world.rows c.self.inside.ready c.in_ok-number.field-0.now c.in_ok-row.row.now c.self.invariant.1 row_is))
+    (ready_at world.facts world.rows c.self.inside.ready c.in_ok-number.number c.in_ok-row.row.now c.self.invariant.1 row_is))
 
 pub returns : goal.returns
 returns c =
     let world = c.self.inside.world.now in
-    let row_is : slice_get world.rows c.in_ok-number.field-0.now ≡ Some c.in_ok-row.row.now = cc (c.in_ok-row.ensures, c.list.ensures) in
+    let row_is : slice_get world.rows c.in_ok-number.number ≡ Some c.in_ok-row.row.now = cc (c.in_ok-row.ensures, c.list.ensures) in
     let found : row_of world.rows c.args.id.now ≡ Some c.in_ok-row.row.now =
-    sym (c.self.invariant.0 c.args.id.now) ∙ ap (row_by world.rows) (sym c.in_ok-number.ensures.value) ∙ row_is in
+    ap (λ (w : World). row_of w.rows c.args.id.now) c.self.view_is ∙ sym c.number_of.ensures ∙ ap (row_by c.args.self.now.rows) c.in_ok-number.was
+    ∙ ap (λ (w : World). slice_get w.rows c.in_ok-number.number) (sym c.self.view_is) ∙ row_is in
     let ready : IsReadyRow world.facts c.in_ok-row.row.now c.in_ok-ready.ready.now =
     subst (λ (o : Option ReadyRow). MatchOption o ⊥ (IsReadyRow world.facts c.in_ok-row.row.now)) {y = Some c.in_ok-ready.ready.now} (cc (c.in_ok-ready.ensures, c.list-2.ensures))
-    (ready_at world.facts world.rows c.self.inside.ready c.in_ok-number.field-0.now c.in_ok-row.row.now c.self.invariant.1 row_is) in
+    (ready_at world.facts world.rows c.self.inside.ready c.in_ok-number.number c.in_ok-row.row.now c.self.invariant.1 row_is) in
     subst (λ (w : World). (row_of w.rows c.args.id.now ≡ Some c.in_ok-row.row.now) × IsReadyRow w.facts c.in_ok-row.row.now c.in_ok-ready.ready.now)
     c.self.view_is (found, ready)
