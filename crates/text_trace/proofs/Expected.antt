@@ -1,5 +1,5 @@
 -- A run that was followed block by block is told as the definition says.
-use Rattle.std.proofs.Common.{◌≡◌, ℕ, ◌+◌, ◌-◌, ◌≤◌, List, [], ◌∷◌, ◌++◌, length, Option, Some, None, Bool, true, false, cond, refl, sym, ap, subst, ◌∙◌, arith}
+use Rattle.std.proofs.Common.{◌≡◌, ℕ, ◌-◌, ◌≤◌, List, [], ◌∷◌, ◌++◌, length, Option, Some, None, Bool, true, false, cond, refl, sym, ap, ◌∙◌, arith}
 use Rattle.std.specs.Prelude.{find}
 use Rattle.std.specs.Option.{option_or}
 use Rattle.spec_run.specs.declared.block.Block.{Block}
@@ -8,15 +8,14 @@ use Rattle.spec_run.specs.declared.note.Note.{Note}
 use Rattle.spec_run.specs.Run.{Trace}
 use Rattle.spec_run.specs.Served.{Setup}
 use Rattle.spec_output.specs.Counts.{notes_in}
-use Rattle.spec_output.specs.Lines.{LineNames, line_names}
+use Rattle.spec_output.specs.Lines.{line_names}
 use Rattle.spec_expect.specs.declared.expectation.Expected.{Expected}
-use Rattle.spec_expect.specs.Told.{fault_line, is_fault, last_line, line_of_note, told_of}
-use Rattle.spec_expect.specs.Verdicts.{failed, lines_of, passed, sum_line}
+use Rattle.spec_expect.specs.Told.{is_fault, last_line, told_of}
+use Rattle.spec_expect.specs.Verdicts.{failed, passed, sum_line}
 use Rattle.expect_watch.specs.Begun.{BegunOn}
 use Rattle.expect_watch.specs.States.{State, all_taken, taken}
 use Rattle.expect_watch.proofs.Told.{all_are, failed_are, lines_are}
-use Rattle.text_trace.specs.declared.expecting.run.Expecting.{Expecting}
-use Rattle.text_trace.specs.Expected.{came_out, comes_out, end_line, failed_in, lines_by, met_or_not, verdict_lines}
+use Rattle.text_trace.specs.Expected.{came_out, comes_out, end_line, failed_in, lines_by}
 use Rattle.text_trace.specs.Following.{Following, all_followed, followed}
 use Rattle.text_trace.specs.Traces.{ended}
 

@@ -12,7 +12,7 @@ use Rattle.run_laws.proofs.Runs.{before_same}
 use Rattle.run_loop.specs.Steps.{CanCome}
 use Rattle.text_trace.specs.Going.{finishes_then}
 use Rattle.spec_output.specs.Rounds.{events_then, fault_in, live_events, nothing_more, round_of, ticks_from}
-use Rattle.text_trace.specs.Traces.{CanAllCome, last_moment}
+use Rattle.text_trace.specs.Traces.{CanAllCome}
 
 -- the event that comes next is the first of those that are left
 left_next : (events : List Event) (i : ℕ) (e : Event) → i < length events → e ≡ get_or events i e → drop i events ≡ e ∷ drop (i + 1) events
@@ -75,6 +75,32 @@ module _ (tree : Tree) (world : World) where
       events_then tree world (live_events world last (moment ∷ later)) rest s ≡ events_then tree world (round_of world.runners (max moment last)) (events_then tree world (live_events world (max moment last) later) rest) s
   round_next last moment later rest s = events_both (round_of world.runners (max moment last)) (live_events world (max moment last) later) rest s
 
+-- ---- Ticks
+
+module _ (tree : Tree) (world : World) (at : ℕ) where
+  -- the ticks that are left of a round, from the one after so many runners on
+  abbrev pub ticks_left : ℕ → List Event
+  ticks_left place = ticks_from (place + 1) (world.runners - place) at
+
+  -- the tick that comes next
+  pub tick_next : (place : ℕ) (rest : RunState → Trace) (s : RunState) → place < world.runners →
+      events_then tree world (ticks_left place) rest s ≡ then_rest (step tree world (record { at = at; what = Tick (place + 1) }) s) (events_then tree world (ticks_left (place + 1)) rest)
+  tick_next place rest s low =
+      let more : world.runners - place ≡ suc (world.runners - (place + 1)) = omega (arith, low) in
+      ap (λ (others : ℕ). events_then tree world (ticks_from (place + 1) others at) rest s) more
+
+  -- none is left
+  pub ticks_end : (place : ℕ) (rest : RunState → Trace) (s : RunState) → world.runners ≤ place → events_then tree world (ticks_left place) rest s ≡ rest s
+  ticks_end place rest s all =
+      let none : world.runners - place ≡ 0 = omega (arith, all) in
+      ap (λ (others : ℕ). events_then tree world (ticks_from (place + 1) others at) rest s) none
+
+  -- all are left
+  pub ticks_first : (rest : RunState → Trace) (s : RunState) → events_then tree world (round_of world.runners at) rest s ≡ events_then tree world (ticks_left 0) rest s
+  ticks_first rest s =
+      let all : world.runners ≡ world.runners - 0 = omega arith in
+      ap (λ (others : ℕ). events_then tree world (ticks_from 1 others at) rest s) all
+
 abbrev last_of : ℕ → List ℕ → ℕ
 last_of last [] = last
 last_of last (moment ∷ moments) = last_of (max moment last) moments
@@ -98,42 +124,6 @@ rounds_front tree world last xs ys s none =
 pub come_next : (of : Setup) (last : ℕ) (events : List Event) (i : ℕ) (e : Event) → i < length events → e ≡ get_or events i e → CanAllCome of last (drop i events) → CanCome of last e × CanAllCome of e.at (drop (i + 1) events)
 come_next of last events i e low is can = subst (CanAllCome of last) (left_next events i e low is) can
 
-pub last_next : (last : ℕ) (events : List Event) (i : ℕ) (e : Event) → i < length events → e ≡ get_or events i e → last_moment last (drop i events) ≡ last_moment e.at (drop (i + 1) events)
-last_next last events i e low is = ap (last_moment last) (left_next events i e low is)
-
-pub last_end : (last : ℕ) (events : List Event) (i : ℕ) → length events ≤ i → last_moment last (drop i events) ≡ last
-last_end last events i all = ap (last_moment last) (drop_all i events all)
-
--- a round at a moment that is not below the last one
-ticks_can_come : (of : Setup) (last at runner many : ℕ) → last ≤ at → 1 ≤ runner → runner + many ≤ of.world.runners + 1 → CanAllCome of last (ticks_from runner many at)
-ticks_can_come of last at runner zero low first within = tt
-ticks_can_come of last at runner (suc others) low first within = (
-  ((first, omega (arith, within)), low, refl),
-  ticks_can_come of at at (runner + 1) others (omega arith) (omega arith) (omega (arith, within)),
-)
-
-pub round_can_come : (of : Setup) (last at : ℕ) → last ≤ at → CanAllCome of last (round_of of.world.runners at)
-round_can_come of last at low = ticks_can_come of last at 1 of.world.runners low (omega arith) (omega arith)
-
-ticks_last : (last at runner many : ℕ) → last ≤ at → last_moment last (ticks_from runner many at) ≤ at
-ticks_last last at runner zero low = low
-ticks_last last at runner (suc others) low = ticks_last at at (runner + 1) others (omega arith)
-
-pub round_last : (runners last at : ℕ) → last ≤ at → last_moment last (round_of runners at) ≤ at
-round_last runners last at low = ticks_last last at 1 runners low
-
--- one tick more
-ticks_add : (runner many at : ℕ) → ticks_from runner (suc many) at ≡ ticks_from runner many at ++ record { at = at; what = Tick (runner + many) } ∷ []
-ticks_add runner zero at =
-    let same : runner ≡ runner + 0 = omega arith in
-    ap (λ (k : ℕ). (record { at = at; what = Tick k }) ∷ []) same
-ticks_add runner (suc many) at =
-    let same : runner + 1 + many ≡ runner + suc many = omega arith in
-    ap (λ (es : List Event). (record { at = at; what = Tick runner }) ∷ es)
-    (ticks_add (runner + 1) many at ∙ ap (λ (k : ℕ). ticks_from (runner + 1) many at ++ (record { at = at; what = Tick k }) ∷ []) same)
-
-pub round_more : (place at : ℕ) → round_of (place + 1) at ≡ round_of place at ++ record { at = at; what = Tick (place + 1) } ∷ []
-round_more place at =
-    let more : place + 1 ≡ suc place = omega arith in
-    let same : 1 + place ≡ place + 1 = omega arith in
-    ap (λ (k : ℕ). ticks_from 1 k at) more ∙ ticks_add 1 place at ∙ ap (λ (k : ℕ). ticks_from 1 place at ++ (record { at = at; what = Tick k }) ∷ []) same
+-- a tick can come at a moment that is not below the last one
+pub tick_can_come : (of : Setup) (last at place : ℕ) → last ≤ at → place < of.world.runners → CanCome of last (record { at = at; what = Tick (place + 1) })
+tick_can_come of last at place low there = ((omega arith, omega (arith, there)), low, refl)

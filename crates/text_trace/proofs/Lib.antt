@@ -1,5 +1,6 @@
 pub mod AboutLoad
 pub mod Cuts
+pub mod Ends
 pub mod Expected
 pub mod Following
 pub mod Lives

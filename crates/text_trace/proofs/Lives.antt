@@ -5,13 +5,11 @@ use Rattle.std.specs.Result.{IsErr}
 use Rattle.std.proofs.lemmas.List.{length-append, length-replicate, take-append-drop, take-append-le, take_at}
 use Rattle.spec_run.specs.declared.fault.RunFault.{RunFault}
 use Rattle.spec_tree.specs.declared.term.Tree.{Tree}
-use Rattle.spec_world.specs.declared.world.Event.{Event}
 use Rattle.spec_world.specs.declared.world.World.{World}
 use Rattle.spec_run.specs.Drivers.{DriverState}
 use Rattle.spec_run.specs.Run.{RunState, Trace}
 use Rattle.spec_outside.specs.Moments.{Moments, after_now}
 use Rattle.text_lines.specs.declared.stop.TextStop.{TextStop}
-use Rattle.text_lines.specs.declared.stop.TextStop.TheVariants as text_stop
 use Rattle.run_loop.specs.declared.runs.Runs.{Runs}
 use Rattle.spec_run.specs.Served.{Setup}
 use Rattle.text_trace.specs.declared.ended.Ended.{Ended}
@@ -21,7 +19,7 @@ use Rattle.spec_output.specs.Rounds.{AreBegun, CanBegin, events_then, fault_in, 
 use Rattle.text_trace.specs.RoundMoments.{AreMoments, WasAsked}
 use Rattle.text_trace.specs.Traces.{ended, state_in}
 use Rattle.text_trace.proofs.Following.{round_next, rounds_front}
-use Rattle.text_trace.proofs.Parts.{part_as, part_before, part_next, part_stopped, part_to}
+use Rattle.text_trace.proofs.Parts.{part_as, part_before, part_next, part_to}
 use Rattle.text_trace.proofs.Unbegun.{none_begin}
 
 -- ---- A clock
@@ -160,14 +158,6 @@ module _ (of : Setup) (opened last : ℕ) (given : List ℕ) (s0 s1 : Stage) whe
         let many : length given ≡ length (given ++ moment ∷ []) - 1 = omega (arith, longer) in
         ap (λ (ms : List ℕ). fault_in of.tree of.world opened ms (state_at of s0)) (take_at given (moment ∷ []) (length (given ++ moment ∷ []) - 1) many) ∙ no_fault so_far
 
-  -- memory ran out before the next one
-  pub rounds_stopped : SoFar → (moment : ℕ) (later : List ℕ) → Makes of (Err text_stop.NoMemory) s0 s1 (λ rest. rounds_then of opened ((given ++ moment ∷ []) ++ later) rest (state_at of s0))
-  rounds_stopped so_far moment later =
-      part_as of s0 s1 (λ rest. rounds_then of opened (given ++ moment ∷ later) rest (state_at of s0)) (λ rest. rest (state_at of s1)) (Err text_stop.NoMemory)
-      (λ rest. rounds_then of opened ((given ++ moment ∷ []) ++ later) rest (state_at of s0))
-      (λ rest. ap (λ (ms : List ℕ). rounds_then of opened ms rest (state_at of s0)) (sym (append_assoc given (moment ∷ []) later)))
-      (part_stopped of s0 s1 (λ rest. rounds_then of opened (given ++ moment ∷ later) rest (state_at of s0)) (λ rest. rounds_then of last (moment ∷ later) rest (state_at of s1)) (so_far (moment ∷ later)))
-
   -- no round is left
   pub rounds_all : SoFar → (later : List ℕ) → later ≡ [] → Makes of (Ok Done) s0 s1 (λ rest. rounds_then of opened (given ++ later) rest (state_at of s0))
   rounds_all so_far later none =
@@ -296,12 +286,7 @@ asked_nothing (Err stopped) err tree world rounds last s old = record {
 pub rounds_as : (of : Setup) (result ends : Result Ended TextStop) (rounds : ℕ) (s0 s1 : Stage) (asked left : Option Moments) → result ≡ ends → RoundsMade of result rounds s0 s1 asked left → RoundsMade of ends rounds s0 s1 asked left
 rounds_as of result ends rounds s0 s1 asked left same p = subst (λ (r : Result Ended TextStop). RoundsMade of r rounds s0 s1 asked left) same p
 
--- the events that were followed are a round
-pub round_is : (of : Setup) (result : Result Ended TextStop) (s1 s2 : Stage) (events : List Event) (at : ℕ) → events ≡ round_of of.world.runners at → Makes of result s1 s2 (λ rest. events_then of.tree of.world events rest (state_at of s1)) →
-    Makes of result s1 s2 (λ rest. events_then of.tree of.world (round_of of.world.runners at) rest (state_at of s1))
-round_is of result s1 s2 events at is made = subst (λ (es : List Event). Makes of result s1 s2 (λ rest. events_then of.tree of.world es rest (state_at of s1))) is made
-
--- .. of runs under another name
+-- what was asked of a clock, of runs under another name
 pub asked_as : (of : Setup) (result : Result Ended TextStop) (rounds : ℕ) (drivers : List DriverState) (a b : Runs) (old new : Option Moments) → a ≡ b → WasAsked result of.tree of.world rounds a.last (state_in of drivers a) old new →
     WasAsked result of.tree of.world rounds b.last (state_in of drivers b) old new
 asked_as of result rounds drivers a b old new same p = subst (λ (r : Runs). WasAsked result of.tree of.world rounds r.last (state_in of drivers r) old new) same p

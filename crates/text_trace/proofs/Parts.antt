@@ -11,7 +11,6 @@ use Rattle.spec_outside.specs.Appending.{AppendedPrefix}
 use Rattle.spec_outside.specs.Counts.{Rose}
 use Rattle.base_outside.proofs.Appends.{AppendedPrefix-nothing}
 use Rattle.text_lines.specs.declared.stop.TextStop.{TextStop}
-use Rattle.text_lines.specs.declared.stop.TextStop.TheVariants as text_stop
 use Rattle.run_arena.specs.declared.nodes.Node.{Node}
 use Rattle.run_loop.specs.declared.runs.Runs.{Runs}
 use Rattle.run_loop.specs.Runs.{AreRuns, arenas_of, leaves_of as leaf_count, roster_over}
@@ -244,19 +243,6 @@ module _ (of : Setup) where
           roster = part.roster;
           watcher = part.watcher;
         }
-
-    -- memory ran out between two parts
-    pub part_stopped : MakesPart of (Ok Done) s0 s1 whole more → Makes of (Err text_stop.NoMemory) s0 s1 whole
-    part_stopped p = record {
-      goes = λ rest. going_here (arenas_at s0) (side_of s0) (side_of s1) (side_of s1) (whole rest) (more rest) (more rest) (p.goes rest);
-      stand = p.stand;
-      on = λ done. cc;
-      off = λ faulted. cc;
-      arenas = p.arenas;
-      room = p.room;
-      roster = p.roster;
-      watcher = record { text = p.watcher.text; lent = p.watcher.lent; failed = λ is. cc; count = p.watcher.count };
-    }
 
   -- a part after which the runs go on
   pub as_done : (result : Result Ended TextStop) (s0 s1 : Stage) (whole : (RunState → Trace) → Trace) → result ≡ Ok Done → Makes of result s0 s1 whole → Makes of (Ok Done) s0 s1 whole

@@ -10,6 +10,10 @@ module _ {Watch : Type 0} (shows : Watch → Result (Unit {0}) TextStop → Watc
   shown_done (Ok y) a b is shown = shown
   shown_done (Err why) a b is shown = cc
 
+  -- an answer under another name
+  pub shown_as : {A : Type 0} (r s : Result A TextStop) (a b : Watch) → r ≡ s → Shown shows r a b → Shown shows s a b
+  shown_as {A} r s a b is shown = subst (λ (x : Result A TextStop). Shown shows x a b) is shown
+
   -- an error that is handed on
   pub shown_stopped : {A B : Type 0} (r : Result A TextStop) (s : Result B TextStop) (e : TextStop) (a b : Watch) → r ≡ Err e → IsErrAnd s (λ f. f ≡ e) → Shown shows r a b → Shown shows s a b
   shown_stopped (Err why) (Err f) e a b was is shown = subst (λ (x : TextStop). shows a (Err x) b) (let same : why ≡ f = cc in same) shown

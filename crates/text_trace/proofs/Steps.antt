@@ -6,10 +6,11 @@ use Rattle.base_texts.specs.declared.stop.Stop.TheVariants as stop
 use Rattle.spec_run.specs.declared.block.Block.{Block as Shown}
 use Rattle.spec_run.specs.declared.fault.RunFault.{RunFault}
 use Rattle.spec_tree.specs.declared.term.Tree.{Tree}
+use Rattle.spec_world.specs.declared.world.Event.{Event}
 use Rattle.spec_world.specs.declared.world.What.{What}
 use Rattle.spec_world.specs.declared.world.World.{World}
 use Rattle.spec_run.specs.Drivers.{DriverState, NothingHeld}
-use Rattle.spec_run.specs.Run.{RunState, Stepped, Trace, before_rest, step_by, then_rest}
+use Rattle.spec_run.specs.Run.{RunState, Stepped, Trace, before_rest, step, step_by, then_rest}
 use Rattle.run_laws.proofs.Runs.{step_last as step_moment}
 use Rattle.spec_outside.specs.Appending.{AppendedPrefix}
 use Rattle.base_outside.proofs.Appends.{AppendedPrefix-longer, AppendedPrefix-nothing}
@@ -21,7 +22,7 @@ use Rattle.run_arena.specs.Blocks.{seen}
 use Rattle.run_loop.specs.declared.runs.Runs.{Runs}
 use Rattle.run_loop.specs.Runs.{AreRuns, roster_over}
 use Rattle.spec_run.specs.Served.{Setup}
-use Rattle.run_loop.specs.Steps.{EventEnds, EventLeft, EventSide, IsStep, event_side}
+use Rattle.run_loop.specs.Steps.{EventEnds, EventLeft, EventSide, IsStep, event_side, kept_state}
 use Rattle.text_trace.specs.declared.ended.Ended.{Ended}
 use Rattle.text_trace.specs.declared.ended.Ended.TheVariants.{Done, Faulted}
 use Rattle.text_trace.specs.Going.{Goes, Going, Makes, Shows, Stage, Stand, arenas_at, side_of, state_at}
@@ -146,3 +147,7 @@ pub last_is : (made : Result (Unit {0}) (Stop RunFault)) (tree : Tree) (world : 
     made ≡ Ok tt → EventEnds made tree.term before after runs block (step_by what tree world at s) → runs.last ≡ at
 last_is (Ok done) tree world before after runs block what at s is ends = ap (λ (x : RunState). x.last) ends.1.state ∙ step_moment what tree world at s
 last_is (Err e) tree world before after runs block what at s is ends = cc
+
+-- .. which was made
+pub event_last : (of : Setup) (event : Event) (old new : EventSide) (made : Result (Unit {0}) (Stop RunFault)) → made ≡ Ok tt → EventLeft of made old new (step of.tree of.world event (kept_state of old)) → new.runs.last ≡ event.at
+event_last of event old new made is left = last_is made of.tree of.world old.drivers new.drivers new.runs new.block event.what event.at (kept_state of old) is left.step

@@ -1,5 +1,5 @@
 -- What is kept of a run for what is expected of it: what each expectation needs, and the note of the first fault.
-use Rattle.std.specs.Prelude.{List, [], ◌∷◌, find, Option, Some, None}
+use Rattle.std.specs.Prelude.{List, [], ◌∷◌, find, Option}
 use Rattle.std.specs.Option.{option_or}
 use Rattle.spec_run.specs.declared.block.Block.{Block}
 use Rattle.spec_run.specs.declared.note.Note.{Note}

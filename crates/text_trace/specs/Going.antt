@@ -1,5 +1,5 @@
 -- A part of a run, against the traces of the whole run and of what follows the part.
-use Rattle.std.specs.Prelude.{◌≡◌, ◌-◌, ◌<◌, ◌≤◌, ◌^◌, ℕ, zero, suc, ◌+◌, List, ◌++◌, [], ◌∷◌, length, take, Option, Some, None, IfSome, Result, Ok, Err, true, false, slice_get}
+use Rattle.std.specs.Prelude.{◌≡◌, ◌-◌, ◌<◌, ◌≤◌, ◌^◌, ℕ, zero, suc, ◌+◌, List, ◌++◌, [], ◌∷◌, length, take, Option, Some, None, IfSome, Result, Ok, Err, OnOk, OnErr, true, false, slice_get}
 use Rattle.std.specs.List.{flat_map}
 use Rattle.std.specs.Option.{option_map}
 use Rattle.base_texts.specs.declared.stop.Stop.{Stop}
@@ -25,7 +25,7 @@ use Rattle.spec_run.specs.Rosters.{IsSameRoster}
 use Rattle.text_trace.specs.declared.ended.Ended.{Ended}
 use Rattle.text_trace.specs.declared.ended.Ended.TheVariants.{Done, Faulted}
 use Rattle.text_trace.specs.declared.underway.Underway.{Underway}
-use Rattle.text_trace.specs.Halted.{IsCut}
+use Rattle.text_trace.specs.Halted.{HaveHalted, IsCut}
 use Rattle.text_trace.specs.RoundMoments.{AreMoments, WasAsked}
 use Rattle.spec_output.specs.Rounds.{events_then, fault_in, live_events, moments_after, taken}
 use Rattle.text_trace.specs.Traces.{IsRun, Side, side, state_in}
@@ -151,3 +151,19 @@ pub record LiveMade (of : Setup) (result : Result Ended TextStop) (rounds : ℕ)
   pub made : Makes of result old new
       (λ rest. rounds_then of old.underway.runs.last moments (finishes_then of.tree of.world 1 of.world.runners rest) (state_at of old))
   pub asked : WasAsked result of.tree of.world rounds old.underway.runs.last (state_at of old) clock left
+
+-- ---- The end of a run
+
+-- where the events have ended in no fault and no stop, all runners were finished; else nothing was done
+abbrev pub FinishesRun : Setup → Result Ended TextStop → Result Ended TextStop → Stage → Stage → Type 0
+FinishesRun of (Ok Done) result old new = Makes of result old new (λ rest. finishes_then of.tree of.world 1 of.world.runners rest (state_at of old))
+FinishesRun of ended result old new = (result ≡ ended) × (new ≡ old)
+
+-- A run whose events ended so has come to its end: `last` is when the last block was shown. Where one could not be shown, the
+-- drivers then had such calls alone as halt.
+pub record EndsRun (of : Setup) (ended result : Result Ended TextStop) (old : Stage) (new : Side) : Type 0 where
+  pub last : Stage
+  pub finishes : FinishesRun of ended result old last
+  pub watch : new.watch ≡ last.watch
+  pub done : OnOk result (new.drivers ≡ last.drivers)
+  pub halts : OnErr result (HaveHalted (arenas_at old) last.drivers new.drivers)

@@ -28,11 +28,6 @@ abbrev pub CanAllCome : Setup → ℕ → List Event → Type 0
 CanAllCome of last [] = Unit {0}
 CanAllCome of last (event ∷ events) = CanCome of last event × CanAllCome of event.at events
 
--- the moment of the last of these events, or this one where there is none
-abbrev pub last_moment : ℕ → List Event → ℕ
-last_moment last [] = last
-last_moment last (event ∷ events) = last_moment event.at events
-
 -- runs of a tree that can be run, in a valid world, which hold nothing
 pub record CanRun (of : Setup) (drivers : List DriverState) (runs : Runs) : Type 0 where
   pub is_runnable : IsRunnable of.tree

@@ -1,12 +1,12 @@
-ghost use Rattle.std.specs.Prelude.{◌≡◌, ◌≤◌, ◌<◌, ◌-◌, ◌^◌, Ok, OnOk, length};
+ghost use Rattle.std.specs.Prelude.{◌≡◌, ◌≤◌, ◌<◌, ◌-◌, ◌^◌, Ok, OnOk, false, length, true};
 ghost use Rattle.spec_run.specs.Drivers.{NothingHeld};
 ghost use Rattle.spec_run.specs.Run.{finish as finish_step, then_rest};
 ghost use Rattle.spec_run.specs.Served.{Setup};
 ghost use Rattle.run_loop.specs.Runs.{arenas_of};
 ghost use Rattle.run_loop.specs.Steps.{HaveRoom};
 ghost use Rattle.text_trace.specs.Halted.{HaveHalted};
-ghost use Rattle.text_trace.specs.Going.{AreAtRest, CanGoOn, Makes, Stand, finishes_then, stage, state_at};
-ghost use Rattle.text_trace.specs.Traces.{AreKept};
+ghost use Rattle.text_trace.specs.Going.{AreAtRest, CanGoOn, EndsRun, Makes, Stand, finishes_then, stage, state_at};
+ghost use Rattle.text_trace.specs.Traces.{AreKept, side};
 ghost use Rattle.text_trace.specs.Watches.{Shown};
 
 use crate::ended::Ended;
@@ -49,7 +49,7 @@ fn finish_one<D: Drivers, W: Watch>(
 }
 
 /// Finishes all runners in order, and shows the block of each. A fault ends it.
-pub fn finish_all<D: Drivers, W: Watch>(
+fn finish_all<D: Drivers, W: Watch>(
     alloc: Global,
     underway: &mut Underway,
     drivers: &mut D,
@@ -72,7 +72,7 @@ pub fn finish_all<D: Drivers, W: Watch>(
 }
 
 /// Finishes all runners in order, as long as none stops, and shows nothing. Then nothing is held.
-pub fn finish_unwritten<D: Drivers>(alloc: Global, underway: &mut Underway, drivers: &mut D)
+fn finish_unwritten<D: Drivers>(alloc: Global, underway: &mut Underway, drivers: &mut D)
     ghost of: { Setup }
     requires stand { Stand of (D.states drivers.old) underway.old.runs }
     requires few { length underway.old.runs.runners.items < 2 ^ 8 }
@@ -92,5 +92,41 @@ pub fn finish_unwritten<D: Drivers>(alloc: Global, underway: &mut Underway, driv
             &mut underway.block,
         )
         .is_err();
+    }
+}
+
+/// Ends a run whose events ended so: where none was a fault and each was shown, finishes all runners in order, and shows the
+/// block of each. Where a block could not be shown, the runners are finished without one, so that no driver holds anything.
+pub fn end_run<D: Drivers, W: Watch>(
+    alloc: Global,
+    underway: &mut Underway,
+    ended: Result<Ended, TextStop>,
+    drivers: &mut D,
+    watch: &mut W,
+) -> Result<Ended, TextStop>
+    ghost of: { Setup }
+    requires stand { Stand of (D.states drivers.old) underway.old.runs }
+    requires few { length underway.old.runs.runners.items < 2 ^ 8 }
+    requires room { HaveRoom (arenas_of underway.old.runs) underway.old.block.notes }
+    requires on { ended ≡ Ok Ended.Done → underway.old.runs.usable ≡ true }
+    requires off { ended ≡ Ok Ended.Faulted → underway.old.runs.usable ≡ false }
+    ensures ends { let old = stage (D.states drivers.old) (W.state watch.old) underway.old in
+        EndsRun of ended result old (side (D.states drivers.new) (W.state watch.new)) }
+    ensures kept { AreKept (D.states drivers.old) (D.states drivers.new) }
+    ensures shows { (first : W) → Shown W.shows ended first watch.old → Shown W.shows result first watch.new }
+{
+    match ended {
+        Ok(Ended::Faulted) => Ok(Ended::Faulted),
+        Ok(Ended::Done) => match finish_all(alloc, underway, drivers, watch) {
+            Ok(ended) => Ok(ended),
+            Err(stopped) => {
+                finish_unwritten(alloc, underway, drivers);
+                Err(stopped)
+            }
+        },
+        Err(stopped) => {
+            finish_unwritten(alloc, underway, drivers);
+            Err(stopped)
+        }
     }
 }

@@ -5,7 +5,6 @@
 mod counter;
 mod counts;
 mod ended;
-mod events;
 mod expecting;
 mod finishes;
 mod load;

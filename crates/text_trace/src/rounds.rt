@@ -1,38 +1,55 @@
-ghost use Rattle.std.specs.Prelude.{◌≡◌, List, ℕ, OnOk};
-ghost use Rattle.spec_run.specs.Drivers.{NothingHeld};
+ghost use Rattle.std.specs.Prelude.{◌≡◌, ◌≤◌, List, ℕ, Ok};
 ghost use Rattle.spec_run.specs.Served.{Setup};
 ghost use Rattle.run_loop.specs.Runs.{arenas_of};
-ghost use Rattle.text_trace.specs.Going.{CanGoOn, LiveMade, RoundsMade, stage};
+ghost use Rattle.text_trace.specs.Going.{CanGoOn, Makes, RoundsMade, stage, state_at};
 ghost use Rattle.text_trace.specs.RoundMoments.{AreMoments, WasAsked};
-ghost use Rattle.spec_output.specs.Rounds.{live_events, round_of};
+ghost use Rattle.spec_output.specs.Rounds.{events_then, live_events, round_of};
 ghost use Rattle.text_trace.specs.Traces.{AreKept, CanRun, Leaves, side, state_in, trace_of};
 ghost use Rattle.text_trace.specs.Watches.{Shown, StaysWatcher};
 
 use crate::ended::Ended;
-use crate::events::follow;
-use crate::finishes::{finish_all, finish_unwritten};
+use crate::finishes::end_run;
+use crate::showing::show_event;
 use crate::underway::{Underway, begin};
 use crate::watch::Watch;
 use base_outside::Clock;
-use base_texts::NoMemory;
 use run_driver::Drivers;
-use run_loop::Runs;
+use run_loop::{Runs, run_event};
 use spec_world::{Event, What};
 use std::alloc::Global;
 use text_lines::TextStop;
 
-/// Fills a round: the tick of each of so many runners in order, at this moment in milliseconds.
-fn fill_round(round: &mut Vec<Event>, runners: u8, at: u64) -> Result<(), NoMemory>
-    ensures { OnOk result (round.new.items ≡ round_of runners at) }
+/// Ticks all runners in order, at this moment in milliseconds, and shows the block of each tick. A fault ends them.
+fn tick_all<D: Drivers, W: Watch>(
+    alloc: Global,
+    underway: &mut Underway,
+    at: u64,
+    drivers: &mut D,
+    watch: &mut W,
+) -> Result<Ended, TextStop>
+    ghost of: { Setup }
+    requires runs { CanGoOn of (D.states drivers.old) underway.old }
+    requires ahead { underway.old.runs.last ≤ at }
+    ensures made { let old = stage (D.states drivers.old) (W.state watch.old) underway.old in
+        let new = stage (D.states drivers.new) (W.state watch.new) underway.new in
+        Makes of result old new (λ rest. events_then of.tree of.world (round_of of.world.runners at) rest (state_at of old)) }
+    ensures last { result ≡ Ok Ended.Done → underway.new.runs.last ≤ at }
+    ensures shows { Shown W.shows result watch.old watch.new }
 {
-    round.clear();
-    for place in 0..runners {
-        round.push(Event {
-            at,
-            what: What::Tick(place + 1),
-        })?;
+    for place in 0..underway.runs.runners.len() as u8 {
+        let what = What::Tick(place + 1);
+        let made = run_event(
+            alloc,
+            &mut underway.runs,
+            Event { at, what },
+            drivers,
+            &mut underway.block,
+        );
+        if let Ended::Faulted = show_event(alloc, made, &underway.block, watch)? {
+            return Ok(Ended::Faulted);
+        }
     }
-    Ok(())
+    Ok(Ended::Done)
 }
 
 /// Makes so many rounds, each at the moment that the clock gives, or at the one before where that lies
@@ -52,43 +69,14 @@ fn follow_clock<D: Drivers, C: Clock, W: Watch>(
         RoundsMade of result rounds old new (C.moments clock.old) (C.moments clock.new) }
     ensures shows { Shown W.shows result watch.old watch.new }
 {
-    let mut round = Vec::new(alloc);
-    let runners = underway.runs.runners.len() as u8;
     let mut last = underway.runs.last;
     for _ in 0..rounds {
         last = clock.now().max(last);
-        let Ok(()) = fill_round(&mut round, runners, last) else {
-            return Err(TextStop::NoMemory);
-        };
-        if let Ended::Faulted = follow(alloc, underway, round.as_slice(), drivers, watch)? {
+        if let Ended::Faulted = tick_all(alloc, underway, last, drivers, watch)? {
             return Ok(Ended::Faulted);
         }
     }
     Ok(Ended::Done)
-}
-
-/// Makes so many rounds at the clock's moments and then finishes all runners, and shows the block of
-/// each tick and finish.
-fn run_live<D: Drivers, C: Clock, W: Watch>(
-    alloc: Global,
-    underway: &mut Underway,
-    rounds: u32,
-    clock: &mut C,
-    drivers: &mut D,
-    watch: &mut W,
-) -> Result<Ended, TextStop>
-    ghost of: { Setup }
-    requires { CanGoOn of (D.states drivers.old) underway.old }
-    ensures made { let old = stage (D.states drivers.old) (W.state watch.old) underway.old in
-        let new = stage (D.states drivers.new) (W.state watch.new) underway.new in
-        LiveMade of result rounds old new (C.moments clock.old) (C.moments clock.new) }
-    ensures none { OnOk result (NothingHeld (D.states drivers.new)) }
-    ensures shows { Shown W.shows result watch.old watch.new }
-{
-    match follow_clock(alloc, underway, rounds, clock, drivers, watch)? {
-        Ended::Done => finish_all(alloc, underway, drivers, watch),
-        Ended::Faulted => Ok(Ended::Faulted),
-    }
 }
 
 /// Makes so many rounds and then finishes all runners, and shows the block of each tick and finish as
@@ -118,11 +106,6 @@ pub fn run_rounds<D: Drivers, C: Clock, W: Watch>(
     ensures shows { Shown W.shows result watch.old watch.new }
 {
     let mut underway = begin(alloc, runs)?;
-    match run_live(alloc, &mut underway, rounds, clock, drivers, watch) {
-        Ok(ended) => Ok(ended),
-        Err(stopped) => {
-            finish_unwritten(alloc, &mut underway, drivers);
-            Err(stopped)
-        }
-    }
+    let ended = follow_clock(alloc, &mut underway, rounds, clock, drivers, watch);
+    end_run(alloc, &mut underway, ended, drivers, watch)
 }

@@ -3,8 +3,8 @@ use Rattle.text_trace.specs.declared.ended.Ended.TheVariants.{Done}
 use Rattle.text_trace.specs.Going.{HasGiven, MakesPart, Stage, rounds_then, stage, state_at}
 use Rattle.text_trace.proofs.rounds.follow_clock.Given as goal
 
-abbrev pub ghost-follow : goal.ghost-follow
-ghost-follow g a = g.of
+abbrev pub ghost-tick_all : goal.ghost-tick_all
+ghost-tick_all g a = g.of
 
 -- as many rounds were made as the counter says, at the moments that the clock has given
 abbrev pub invariant-loop : goal.invariant-loop

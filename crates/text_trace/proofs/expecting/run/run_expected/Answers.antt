@@ -1,14 +1,12 @@
-use Rattle.std.proofs.Common.{◌≡◌, ◌∙◌, ◌++◌, ℕ, List, [], Some, ap, append-nil, rules, sym}
+use Rattle.std.proofs.Common.{◌≡◌, ◌∙◌, ◌++◌, ℕ, List, Some, ap, append-nil}
 use Rattle.std.proofs.lemmas.Result.{err_from_is_err_and}
-use Rattle.spec_output.specs.Lines.{LineNames, line_names}
 use Rattle.spec_run.specs.Run.{Trace}
 use Rattle.expect_watch.specs.States as states
 use Rattle.run_loop.specs.Runs.{arenas_of}
 use Rattle.spec_output.specs.Rounds.{nothing_more}
-use Rattle.text_trace.specs.declared.ended.Ended.{Ended}
 use Rattle.text_trace.specs.Expected.{came_out, failed_in, following, lines_by}
 use Rattle.text_trace.specs.Following.{Following, all_followed}
-use Rattle.text_trace.specs.Traces.{ended, trace_of}
+use Rattle.text_trace.specs.Traces.{trace_of}
 use Rattle.text_trace.proofs.Cuts.{cut_here}
 use Rattle.text_trace.proofs.Expected.{after_blocks, came_so, following_is, lines_told, opening_following}
 use Rattle.text_trace.proofs.expecting.run.run_expected.Goals as goal
