@@ -72,55 +72,6 @@ fn run_summed<S: Shelf, K: Sink, C: Clock, D: Drivers>(
     Ok(ended)
 }
 
-/// Runs what was joined, on its course: the trace of its events is written, or the line that sums up a
-/// load.
-fn run<S: Shelf, K: Sink, C: Clock, D: Drivers>(
-    alloc: Global,
-    runs: Runs,
-    events: &[Event],
-    names: &Names,
-    course: Course,
-    outside: &mut Outside<S, K, C, D>,
-) -> Exit
-    ghost of: { Setup }
-    requires runs { CanRun of (D.states outside.old.drivers.now) runs }
-    requires opening { state_in of (D.states outside.old.drivers.now) runs ≡ opening of.tree of.world }
-    requires events { events.now ≡ of.world.events }
-    requires told { first_untold of.world.rows (nodes_of of.tree.term) of.world.events ≡ None }
-    requires names { names.now ≡ names_on course of.tree of.world }
-    ensures gave { RunGave of course runs result
-        (seen K.written K.faults C.moments D.states outside.old)
-        (seen K.written K.faults C.moments D.states outside.new) }
-    ensures unread { outside.new.shelf.now ≡ outside.old.shelf.now }
-    ensures stays { Stays S.faults K.faults D.states outside.old outside.new }
-    ensures writes { WritesAt K.write_gives result outside.old.out.now outside.new.out.now }
-{
-    match course {
-        Course::Script => {
-            let mut writer = Writer {
-                names,
-                out: outside.out,
-            };
-            exit_of(run_events(alloc, runs, events, outside.drivers, &mut writer))
-        }
-        Course::Rounds(rounds) => {
-            let mut writer = Writer {
-                names,
-                out: outside.out,
-            };
-            exit_of(run_rounds(
-                alloc,
-                runs,
-                rounds,
-                outside.clock,
-                outside.drivers,
-                &mut writer,
-            ))
-        }
-        Course::Load(leaves) => exit_of(run_summed(alloc, leaves, runs, events, outside)),
-    }
-}
-
 /// The names that the lines of a run need on this course. None of the lines of a load is written. The error is want of
 /// memory.
 fn names_on(
@@ -168,9 +119,9 @@ pub fn joined_runs<D: Drivers>(
     }
 }
 
-/// Joins a tree with a world and the drivers and runs it, where every leaf has a row and its row a
-/// driver; else it is refused for the first leaf that lacks one, or else for the first event that tells a leaf or an
-/// output that is not there.
+/// Joins a tree with a world and the drivers and runs it on this course, where every leaf has a row and its row a
+/// driver: the trace of its events is written, or the line that sums up a load. Else it is refused for the first leaf
+/// that lacks one, or else for the first event that tells a leaf or an output that is not there.
 pub fn join_and_run<S: Shelf, K: Sink, C: Clock, D: Drivers>(
     alloc: Global,
     tree: &Tree,
@@ -194,5 +145,25 @@ pub fn join_and_run<S: Shelf, K: Sink, C: Clock, D: Drivers>(
     let slots = slots_of(alloc, tree)?;
     let names = names_on(alloc, course, tree, world, &slots)?;
     let runs = joined_runs(alloc, tree, &slots, world, outside.drivers)?;
-    Ok(run(alloc, runs, world.events.list(), &names, course, outside))
+    let (names, events) = (&names, world.events.list());
+    match course {
+        Course::Script => {
+            let mut writer = Writer {
+                names,
+                out: outside.out,
+            };
+            let ended = run_events(alloc, runs, events, outside.drivers, &mut writer);
+            Ok(exit_of(ended))
+        }
+        Course::Rounds(rounds) => {
+            let mut writer = Writer {
+                names,
+                out: outside.out,
+            };
+            let clock = &mut *outside.clock;
+            let ended = run_rounds(alloc, runs, rounds, clock, outside.drivers, &mut writer);
+            Ok(exit_of(ended))
+        }
+        Course::Load(leaves) => Ok(exit_of(run_summed(alloc, leaves, runs, events, outside))),
+    }
 }
