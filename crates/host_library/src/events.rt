@@ -13,7 +13,7 @@ ghost use Rattle.host_library.specs.Owned.{hosted_owns};
 use crate::hosted::Hosted;
 use base_tables::{MOST_OUTPUTS, MOST_TEXT_BYTES};
 use base_texts::{Items, NoMemory, Txt};
-use host_values::{FAULT, MISUSE, NO_EVENT, NO_MEMORY, OK, code_of, is_utf8};
+use host_values::{MISUSE, NO_EVENT, NO_MEMORY, OK, code_of, is_utf8};
 use spec_script::Value;
 use spec_world::{Telling, ToldOut, What};
 use std::alloc::Global;

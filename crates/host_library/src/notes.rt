@@ -7,10 +7,8 @@ ghost use Rattle.host_library.specs.Traces.{LinesTold, trace_of};
 
 use crate::hosted::Hosted;
 use base_outside::SureSink;
-use base_texts::NoMemory;
 use host_values::{NO_STATUS, answer_number, copy_text, status_number};
 use spec_run::{Cause, Header, Note, PortId};
-use std::alloc::Global;
 use text_lines::{TextStop, names_of, write_block};
 
 /// What is told of a note.

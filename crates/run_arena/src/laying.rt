@@ -12,7 +12,7 @@ ghost use Rattle.run_arena.specs.Stands.{uids_of, written};
 
 use crate::book::Slotting;
 use crate::leaves::leaf_of;
-use crate::nodes::{Node, ReadyGuards, ReadyLeaf};
+use crate::nodes::{Node, ReadyGuards};
 use crate::ports::kind_sources;
 use crate::resolving::Setting;
 use crate::scripts::give_scripts;

@@ -1,6 +1,6 @@
 ghost use Rattle.std.specs.Prelude.{◌≡◌, option_copied, IfOk};
 ghost use Rattle.base_texts.specs.Stops.{Gives};
-ghost use Rattle.spec_tree_file.specs.Models.{no_ports, with_child, with_children, with_port, with_port_named, with_written};
+ghost use Rattle.spec_tree_file.specs.Models.{no_ports, with_child, with_children, with_port, with_written};
 
 use crate::attributes::attribute;
 use crate::names::{can_be_written, is_port};
