@@ -195,16 +195,18 @@ fn asked_at_failure(alloc: Global, write: u64) -> Result<String, NoMemory> {
     Ok(format!(in alloc; "{exit:?}, next {}", clock.now())?)
 }
 
-/// After a write that fails the clock is asked no more. Each round has five lines, and the finish one.
+/// After a write that fails the clock is asked no more. Each round has two writes, of its header and of its notes, and the
+/// finish has one.
 #[test]
 fn a_failed_write_asks_the_clock_no_more(rt: HostRuntime) -> Result<(), Fail> {
     for (write, want) in [
         (0, "Done, next 4"),
         (1, "Write, next 2"),
-        (5, "Write, next 2"),
-        (6, "Write, next 3"),
-        (11, "Write, next 4"),
-        (16, "Write, next 4"),
+        (2, "Write, next 2"),
+        (3, "Write, next 3"),
+        (5, "Write, next 4"),
+        (7, "Write, next 4"),
+        (8, "Done, next 4"),
     ] {
         let text = asked_at_failure(rt.alloc(), write)?;
         assert_eq!(rt; text.as_str(), want, "{write}");
