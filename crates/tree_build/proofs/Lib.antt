@@ -1,6 +1,7 @@
 pub mod AnyUid
 pub mod ContentFits
 pub mod ContentLaw
+pub mod Defaults
 pub mod ElementTexts
 pub mod Fits
 pub mod HeadFits
@@ -15,7 +16,6 @@ pub mod ReadLaw
 pub mod SameAttributes
 pub mod ScriptAnswers
 pub mod ScriptFits
-pub mod ShortTexts
 pub mod Sizes
 pub mod TableOfNames
 pub mod Tables

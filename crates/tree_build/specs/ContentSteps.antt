@@ -1,5 +1,5 @@
 -- How what the attributes of a node say is read, step by step. Only clauses of private functions cite this; it is proved to be `Content`.
-use Rattle.std.specs.Prelude.{ℕ, List, [], ◌∷◌, ◌++◌, codes, Bool, true, false, not, is_some, ◌||◌, if◌then◌else◌, Option, Some, None, option_map, Result, Ok, Err}
+use Rattle.std.specs.Prelude.{ℕ, List, [], ◌∷◌, ◌++◌, filter, codes, Bool, true, false, not, is_some, ◌||◌, if◌then◌else◌, Option, Some, None, option_map, Result, Ok, Err}
 use Rattle.spec_script.specs.declared.fault.ScriptFault.{ScriptFault}
 use Rattle.spec_script.specs.declared.syntax.Script.{Script}
 use Rattle.std.specs.List.{list_all, list_any}
@@ -21,7 +21,7 @@ use Rattle.spec_tree_file.specs.declared.build_fault.BuildFault.{BuildFault}
 use Rattle.spec_tree_file.specs.declared.build_fault.BuildFault.TheVariants.{UnknownPort, OldSubTree, BadLiteral, BadScript}
 use Rattle.spec_tree_file.specs.declared.version.Form.{Form}
 use Rattle.spec_tree_file.specs.declared.version.Form.TheVariants as form
-use Rattle.spec_tree_file.specs.Content.{Rules, Modelled, BuiltIn, all_known, form_fits, is_port, name_fits, range_of, truth_in}
+use Rattle.spec_tree_file.specs.Content.{Rules, Modelled, BuiltIn, all_known, form_fits, is_absent, is_port, name_fits, range_of, truth_in}
 use Rattle.spec_tree_file.specs.FirstFaults.{refused_if}
 use Rattle.spec_tree_file.specs.ScriptOf.{script_in}
 
@@ -92,6 +92,10 @@ with_modelled uid attributes ports port =
 abbrev pub with_model : ℕ → Attributes → List Port → List ModelPort → Result (List Port) BuildFault
 with_model uid attributes ports [] = Ok ports
 with_model uid attributes ports (port ∷ more) = go_on (λ next. with_model uid attributes next more) (with_modelled uid attributes ports port)
+
+-- the ports with these defaults, where they are not written
+abbrev pub with_defaults : Attributes → List Port → List Port → List Port
+with_defaults attributes ports defaults = ports ++ filter (λ port. is_absent attributes port.name) defaults
 
 -- the ports with those that are not written
 abbrev pub with_absent : ℕ → Attributes → Rules → List Port → Result (List Port) BuildFault

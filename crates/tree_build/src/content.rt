@@ -15,7 +15,7 @@ use crate::scripts::script;
 use base_tables::has_code;
 use base_texts::{Boxed, Name, Shared, Stop};
 use spec_script::Script;
-use spec_tree::{Guards, Kind, Port, Ports};
+use spec_tree::{Guards, Kind, Ports};
 use spec_tree_file::{BuildFault, Content, Form, Head};
 use std::alloc::Global;
 use std::mem::replace;
@@ -251,17 +251,17 @@ fn autoremap_in(
 fn scripts_in(
     source: Source<'_>,
     uid: u32,
-    ports: Vec<Port>,
+    ports: Ports,
     text: Option<&Name>,
     autoremap: bool,
     attributes: &[(Name, Name)],
 ) -> Result<Boxed<Content>, Stop<BuildFault>>
-    ensures { Gives result (scripts_in uid ports.items (option_copied text.entry) autoremap attributes.now) }
+    ensures { Gives result (scripts_in uid ports (option_copied text.entry) autoremap attributes.now) }
 {
     let code = script_of(source, uid, text)?;
     let guards = guards_in(source, uid, attributes)?;
     let content = Content {
-        ports: Ports::of(source.alloc, ports)?,
+        ports,
         code,
         guards,
         autoremap,
@@ -276,9 +276,9 @@ fn rest_in(
     kind: Kind,
     form: Form,
     attributes: &[(Name, Name)],
-    ports: Vec<Port>,
+    ports: Ports,
 ) -> Result<Boxed<Content>, Stop<BuildFault>>
-    ensures { Gives result (rest_in uid kind form attributes.now ports.items) }
+    ensures { Gives result (rest_in uid kind form attributes.now ports) }
 {
     let text = code_text(uid, has_code(kind), attributes)?;
     let autoremap = autoremap_in(uid, kind, form, attributes)?;

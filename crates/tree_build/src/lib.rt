@@ -11,7 +11,6 @@ mod rules;
 mod scripts;
 mod tree;
 mod trees;
-mod values;
 mod version;
 mod working;
 

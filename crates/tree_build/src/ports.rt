@@ -1,20 +1,20 @@
-ghost use Rattle.std.specs.Prelude.{◌≡◌, [], true, false, map, option_map, IsUtf8, IfOk};
-ghost use Rattle.std.specs.Option.{option_copied};
+ghost use Rattle.std.specs.Prelude.{◌≡◌, [], is_some, map, not, IsUtf8, IfOk};
+ghost use Rattle.std.specs.List.{list_all};
+ghost use Rattle.base_texts.specs.Stops.{Gives};
 ghost use Rattle.base_tables.specs.BuiltInRows.{rule_seen};
-ghost use Rattle.tree_build.specs.ContentSteps.{ports_in, with_absent, with_attribute, with_fallback, with_model, with_modelled, with_port, with_ranged, with_rule, with_rules, with_written};
-ghost use Rattle.spec_tree_file.specs.Content as content;
+ghost use Rattle.tree_build.specs.ContentSteps.{is_modelled, ports_in, with_attribute, with_defaults, with_model, with_port, with_rule, with_rules, with_written};
+ghost use Rattle.spec_tree_file.specs.Attributes.{value_of};
 ghost use Rattle.tree_build.specs.Gives.{GivesList};
 ghost use Rattle.tree_build.specs.Seen.{rules_seen};
 
 use crate::attributes::Attributes;
 use crate::rules::{Rules, is_port, name_fits, range_of};
-use crate::values::value;
 use base_tables::PortRule;
-use base_texts::{Name, Stop};
-use spec_tree::{Port, Range};
-use spec_tree_file::{BuildFault, ModelPort};
+use base_texts::{Name, NoMemory, Stop};
+use spec_tree::{Port, PortValue, Ports, Range};
+use spec_tree_file::BuildFault;
 use std::alloc::Global;
-use tree_manifest::attribute;
+use tree_manifest::{KnownModel, attribute, value};
 
 /// The ports with one of this name and text. The fault `BadLiteral` where the text may not stand there.
 fn with_port(
@@ -118,39 +118,69 @@ fn with_rules(
     Ok(ports)
 }
 
-/// The ports with the fallback of this port of a leaf's model, where the port is not written and there is a fallback.
-fn with_modelled(
-    alloc: Global,
-    uid: u32,
-    attributes: &Attributes<'_>,
-    ports: Vec<Port>,
-    port: &ModelPort,
-) -> Result<Vec<Port>, Stop<BuildFault>>
-    ensures { GivesList result (with_modelled uid attributes.now ports.items port.now) }
+/// Whether no attribute is a port of the model.
+fn writes_none(model: &KnownModel, attributes: &[(Name, Name)]) -> bool
+    ensures { result ≡ list_all (λ a. not (is_modelled model.now.ports a.0)) attributes.now }
 {
-    if attributes.has(port.name.list()) {
-        return Ok(ports);
-    }
-    match &port.fallback {
-        Some(text) => with_port(alloc, uid, ports, Range::AnyValue, &port.name, text.list()),
-        None => Ok(ports),
+    attributes.iter().all(|(name, _)| !model.has_port(name))
+}
+
+/// Whether all ports of these names are written.
+fn are_written(attributes: &Attributes<'_>, names: &[Name]) -> bool
+    ensures { result ≡ list_all (λ name. is_some (value_of name attributes.now)) names.now }
+{
+    names.iter().all(|name| attributes.has(name.list()))
+}
+
+/// An equal value. A long text is not copied.
+fn copied(alloc: Global, value: &PortValue) -> Result<PortValue, NoMemory>
+    ensures { IfOk result (λ copy. copy ≡ value.now) }
+{
+    match value {
+        PortValue::Lit(value) => Ok(PortValue::Lit(value.copy(alloc)?)),
+        PortValue::Key(key) => Ok(PortValue::Key(key.copy(alloc)?)),
     }
 }
 
-/// The ports with the fallbacks of a leaf's model, or the first fault.
+/// The ports with these defaults, where they are not written. Long texts are not copied.
+fn with_defaults(
+    alloc: Global,
+    attributes: &Attributes<'_>,
+    mut ports: Vec<Port>,
+    defaults: &[Port],
+) -> Result<Vec<Port>, NoMemory>
+    ensures { IfOk result (λ all. all.items ≡ with_defaults attributes.now ports.items defaults.now) }
+{
+    for port in defaults {
+        if !attributes.has(port.name.list()) {
+            let name = port.name.copy(alloc)?;
+            let value = copied(alloc, &port.value)?;
+            ports.push(Port { name, value })?;
+        }
+    }
+    Ok(ports)
+}
+
+/// The ports with the defaults of a leaf's model, or the first fault. A leaf that writes none has those of its model,
+/// which are not copied.
 fn with_model(
     alloc: Global,
     uid: u32,
-    attributes: &Attributes<'_>,
-    mut ports: Vec<Port>,
-    model: &[ModelPort],
-) -> Result<Vec<Port>, Stop<BuildFault>>
-    ensures { GivesList result (with_model uid attributes.now ports.items model.now) }
+    attributes: &[(Name, Name)],
+    ports: Vec<Port>,
+    model: &KnownModel,
+) -> Result<Ports, Stop<BuildFault>>
+    ensures { Gives result (with_model uid attributes.now ports.items model.now.ports) }
 {
-    for port in model {
-        ports = with_modelled(alloc, uid, attributes, ports, port)?;
+    let looked = Attributes::of(alloc, attributes)?;
+    if !are_written(&looked, model.faulty()) {
+        return Err(Stop::Fault(BuildFault::BadLiteral { uid }));
     }
-    Ok(ports)
+    if ports.is_empty() && writes_none(model, attributes) {
+        return Ok(model.defaults().share()?);
+    }
+    let ports = with_defaults(alloc, &looked, ports, model.defaults().list())?;
+    Ok(Ports::of(alloc, ports)?)
 }
 
 /// The ports of a node: those that are written, and then those that have a default. The fault `BadLiteral` where one
@@ -161,16 +191,16 @@ pub fn ports_in(
     with_code: bool,
     rules: Rules<'_>,
     attributes: &[(Name, Name)],
-) -> Result<Vec<Port>, Stop<BuildFault>>
-    ensures { GivesList result (ports_in uid with_code (rules_seen rules.entry) attributes.now) }
+) -> Result<Ports, Stop<BuildFault>>
+    ensures { Gives result (ports_in uid with_code (rules_seen rules.entry) attributes.now) }
 {
     let ports = written(alloc, uid, with_code, rules, attributes)?;
     match rules {
-        Rules::AnyPort | Rules::AnyKey => Ok(ports),
-        Rules::Modelled(model) => {
-            let attributes = Attributes::of(alloc, attributes)?;
-            with_model(alloc, uid, &attributes, ports, model.ports())
+        Rules::AnyPort | Rules::AnyKey => Ok(Ports::of(alloc, ports)?),
+        Rules::Modelled(model) => with_model(alloc, uid, attributes, ports, model),
+        Rules::BuiltIn(rules) => {
+            let ports = with_rules(alloc, uid, attributes, ports, rules)?;
+            Ok(Ports::of(alloc, ports)?)
         }
-        Rules::BuiltIn(rules) => with_rules(alloc, uid, attributes, ports, rules),
     }
 }

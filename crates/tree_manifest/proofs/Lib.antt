@@ -1,1 +1,2 @@
 pub mod PortNames
+pub mod ShortTexts

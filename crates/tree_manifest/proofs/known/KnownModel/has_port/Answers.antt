@@ -4,4 +4,4 @@ use Rattle.tree_manifest.proofs.PortNames.{has_name}
 use Rattle.tree_manifest.proofs.known.KnownModel.has_port.Goals as goal
 
 pub returns : goal.returns
-returns c = c.contains.ensures ∙ c.self.invariant c.args.name.now ∙ ap (λ (model : NodeModel). has_name c.args.name.now model.ports) c.self.view_is
+returns c = c.contains.ensures ∙ c.self.invariant.0 c.args.name.now ∙ ap (λ (model : NodeModel). has_name c.args.name.now model.ports) c.self.view_is

@@ -10,12 +10,14 @@ use Rattle.std.proofs.lemmas.List.{length-append, length-drop, take-append-drop}
 use Rattle.std.proofs.Math.IntN.{neg_ℤ}
 use Rattle.std.proofs.lemmas.Slice.Eq.{bytes_eq-Decides}
 use Rattle.spec_script.proofs.Bools.{both}
-use Rattle.tree_build.proofs.PortFits.{some_same}
 use Rattle.spec_script.specs.declared.value.Value.TheVariants.{Text}
 use Rattle.spec_tree.specs.declared.built_ins.Range.{Range}
 use Rattle.spec_tree.specs.declared.built_ins.Range.TheVariants.{AnyValue, AnyInt, Turns, Duration, Truth, Recoveries, Rate}
 use Rattle.spec_tree.specs.BuiltIns.{fits, rate_within}
 use Rattle.spec_tree.specs.Numbers.{digits_after, is_canonical, is_positive, number_in, thousandths_after, thousandths_at, thousandths_by, thousandths_in, without_minus}
+
+some_same : {A : Type 0} (x y : A) → Some x ≡ Some y → x ≡ y
+some_same x y h = cc
 
 -- digits after a number that is not 0 count more than there are of them
 grows : (ds : List ℕ) (n : ℕ) → 1 ≤ n → n + length ds ≤ digits_value_after 10 n ds

@@ -1,6 +1,6 @@
 use Rattle.std.proofs.Common.{List, ℕ, ◌≤◌, length, sym, subst, ◌∙◌}
-use Rattle.tree_build.proofs.ShortTexts.{fitting_length}
-use Rattle.tree_build.proofs.values.literal.Goals as goal
+use Rattle.tree_manifest.proofs.ShortTexts.{fitting_length}
+use Rattle.tree_manifest.proofs.values.literal.Goals as goal
 
 pub of-requires-clause-short : goal.of-requires-clause-short
 of-requires-clause-short c =
