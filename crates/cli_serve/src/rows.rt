@@ -14,7 +14,7 @@ use base_texts::{Items, Name, NoMemory, Stop};
 use cli_refusals::Refusal;
 use indexmap::IndexMap;
 use spec_program::TreeFault;
-use spec_tree::{Kind, Port, Term, Tree};
+use spec_tree::{Kind, Ports, Term, Tree};
 use spec_tree_file::{Element, Elements};
 use spec_world::{Row, RowSort, World};
 use spec_world_file::{WorldFault, WorldKind};
@@ -69,10 +69,10 @@ fn add_port(alloc: Global, port: &Name, ports: &mut Vec<Name>) -> Result<(), NoM
 }
 
 /// Adds the ports of a node to those of its ID.
-fn add_ports(alloc: Global, ports: &[Port], leaf: &mut Leaf) -> Result<(), NoMemory>
+fn add_ports(alloc: Global, ports: &Ports, leaf: &mut Leaf) -> Result<(), NoMemory>
     ensures { OnOk result (leaf.new ≡ with_ports (names_of ports.now) leaf.old) }
 {
-    for port in ports {
+    for port in ports.iter() {
         add_port(alloc, &port.name, &mut leaf.ports)?;
     }
     Ok(())
@@ -93,7 +93,7 @@ fn add_id(alloc: Global, id: &Name, leaves: &mut Leaves) -> Result<(), NoMemory>
 }
 
 /// Adds a leaf of this ID with the ports that its node gives.
-fn add_leaf(alloc: Global, id: &Name, ports: &[Port], leaves: &mut Leaves) -> Result<(), NoMemory>
+fn add_leaf(alloc: Global, id: &Name, ports: &Ports, leaves: &mut Leaves) -> Result<(), NoMemory>
     ensures { OnOk result (leaves.new.entries ≡ with_leaf id.now (names_of ports.now) leaves.old.entries) }
 {
     add_id(alloc, id, leaves)?;
@@ -108,7 +108,7 @@ fn add_node(alloc: Global, term: &Term, leaves: &mut Leaves) -> Result<(), NoMem
     ensures { OnOk result (leaves.new.entries ≡ with_node (own_node term.now) leaves.old.entries) }
 {
     match term.kind {
-        Kind::Leaf => add_leaf(alloc, &term.id, term.ports.list(), leaves),
+        Kind::Leaf => add_leaf(alloc, &term.id, &term.ports, leaves),
         _ => Ok(()),
     }
 }

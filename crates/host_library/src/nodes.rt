@@ -117,7 +117,7 @@ impl Hosted {
         ensures { result ≡ length (reads.ports_told (reads.label_at self.now.session uid)) }
     {
         match self.session.label(uid) {
-            Some(label) => label.ports.list().len(),
+            Some(label) => label.ports.len(),
             None => 0,
         }
     }
@@ -127,7 +127,7 @@ impl Hosted {
         ensures { option_copied result ≡ reads.port_at self.now.session uid place }
     {
         match self.session.label(uid) {
-            Some(label) => label.ports.list().get(place),
+            Some(label) => label.ports.get(place),
             None => None,
         }
     }

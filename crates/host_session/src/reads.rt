@@ -20,7 +20,7 @@ use run_loop::{ReadyRunner, Runs};
 use spec_run::Status;
 use spec_script::Value;
 use spec_session::Label;
-use spec_tree::{Kind, Port, PortValue, Tree};
+use spec_tree::{Kind, PortValue, Ports, Tree};
 use spec_world::World;
 use tree_board::{Slots, slot};
 
@@ -59,10 +59,15 @@ fn inputs_in<'a>(five: &'a Five, arena: &Arena, uid: u32) -> &'a [Option<Value>]
 }
 
 /// Lends what the port of this name is given; none where it is given nothing.
-fn given<'a>(ports: &'a [Port], name: &Name) -> Option<&'a PortValue>
+fn given<'a>(ports: &'a Ports, name: &Name) -> Option<&'a PortValue>
     ensures { option_copied result ≡ given_by (port_of ports.now name.now) }
 {
-    Some(&ports.iter().find(|port| port.name == *name)?.value)
+    for port in ports.iter() {
+        if port.name == *name {
+            return Some(&port.value);
+        }
+    }
+    None
 }
 
 /// Whether a node is a leaf for which a row stands.
@@ -199,7 +204,7 @@ impl Session {
         ensures { option_copied result ≡ port_value self.now runner uid port.now }
     {
         let label = self.label(uid)?;
-        match given(label.ports.list(), port)? {
+        match given(&label.ports, port)? {
             PortValue::Lit(value) => Some(value),
             PortValue::Key(key) => self.entry(runner, label.scope, key),
         }

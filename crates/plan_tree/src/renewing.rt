@@ -44,7 +44,7 @@ fn is_plain(term: &Term) -> bool
     ensures guards { IsTrue result → (out-Term term.now).guards ≡ no_guards }
     ensures autoremap { IsTrue result → (out-Term term.now).autoremap ≡ false }
 {
-    term.ports.list().is_empty() && term.code.is_none() && are_none(&term.guards) && !term.autoremap
+    term.ports.is_empty() && term.code.is_none() && are_none(&term.guards) && !term.autoremap
 }
 
 /// Whether a node has this ID, and is named by it.

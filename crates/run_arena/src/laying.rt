@@ -146,7 +146,7 @@ fn add_node<D: Drivers>(
 {
     let place = nodes.len();
     let children = narrow(term.children.list().len())?;
-    let ports = kind_sources(term.kind, term.ports.list(), setting, scope)?;
+    let ports = kind_sources(term.kind, &term.ports, setting, scope)?;
     let guards = setting.unguarded.share()?;
     // A push that can fail clears room for the node that it would give back.
     nodes.reserve(1)?;

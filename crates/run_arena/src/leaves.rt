@@ -18,7 +18,7 @@ use crate::resolving::Setting;
 use crate::rows::FoundRow;
 use base_texts::{Items, NoMemory};
 use run_driver::{Drivers, kind_of};
-use spec_tree::{Port, Term};
+use spec_tree::{Ports, Term};
 
 /// Takes the next instance of the driver at this place. From 2^32 leaves on it is want of memory.
 pub(crate) fn next_instance(next: &mut [u32], place: usize) -> Result<u32, NoMemory>
@@ -38,7 +38,7 @@ pub(crate) fn next_instance(next: &mut [u32], place: usize) -> Result<u32, NoMem
 
 /// A leaf with these ports that follows a row, with its driver and its instance, or want of memory.
 fn leaf_with(
-    ports: &[Port],
+    ports: &Ports,
     found: FoundRow,
     driver: usize,
     instance: u32,
@@ -88,7 +88,7 @@ pub(crate) fn leaf_of<D: Drivers>(
         Some(found) => match drivers.place_of(kind_of(found.row)) {
             Some(driver) => {
                 let instance = next_instance(next, driver)?;
-                let ports = node.ports.list();
+                let ports = &node.ports;
                 Ok(leaf_with(ports, found, driver, instance, setting, scope)?)
             }
             None => unreachable!(),

@@ -11,13 +11,13 @@ use crate::resolving::{Setting, source_at};
 use crate::source::Source;
 use base_tables::{PortRule, ports_of};
 use base_texts::{Name, NoMemory};
-use spec_tree::{Kind, Port};
+use spec_tree::{Kind, Ports};
 use spec_world::{Out, Row, RowSort};
 
 /// What the ports of these rules are given, in order, or want of memory.
 fn rule_sources(
     rules: &[PortRule],
-    ports: &[Port],
+    ports: &Ports,
     setting: &Setting,
     scope: u32,
 ) -> Result<Vec<Source>, NoMemory>
@@ -37,7 +37,7 @@ fn rule_sources(
 /// memory.
 pub(crate) fn kind_sources(
     kind: Kind,
-    ports: &[Port],
+    ports: &Ports,
     setting: &Setting,
     scope: u32,
 ) -> Result<Vec<Source>, NoMemory>
@@ -52,7 +52,7 @@ pub(crate) fn kind_sources(
 /// What the ports of these names are given, in order, or want of memory.
 pub(crate) fn name_sources(
     names: &[Name],
-    ports: &[Port],
+    ports: &Ports,
     setting: &Setting,
     scope: u32,
 ) -> Result<Vec<Source>, NoMemory>
@@ -71,7 +71,7 @@ pub(crate) fn name_sources(
 /// What the ports of these outputs are given, in order, or want of memory.
 fn out_sources(
     outs: &[Out],
-    ports: &[Port],
+    ports: &Ports,
     setting: &Setting,
     scope: u32,
 ) -> Result<Vec<Source>, NoMemory>
@@ -91,7 +91,7 @@ fn out_sources(
 /// those that the row works out.
 pub(crate) fn output_sources(
     row: &Row,
-    ports: &[Port],
+    ports: &Ports,
     setting: &Setting,
     scope: u32,
 ) -> Result<Vec<Source>, NoMemory>

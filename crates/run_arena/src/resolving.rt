@@ -15,7 +15,7 @@ use crate::source::Source;
 use base_texts::{Name, NoMemory, Shared};
 use script_code::{Code, ScriptCode};
 use spec_script::Script;
-use spec_tree::{Guards, Port, PortValue, Tree};
+use spec_tree::{Guards, Port, PortValue, Ports, Tree};
 use std::alloc::Global;
 use std::cell::RefCell;
 use tree_board::{Slots, slot};
@@ -127,10 +127,10 @@ pub(crate) fn is_after(guards: &Guards) -> bool
 }
 
 /// The port of this name; none where it is not given.
-fn port_named<'a>(ports: &'a [Port], name: &[u8]) -> Option<&'a Port>
+fn port_named<'a>(ports: &'a Ports, name: &[u8]) -> Option<&'a Port>
     ensures { option_copied result ≡ port_of ports.now name.now }
 {
-    for port in ports {
+    for port in ports.iter() {
         if port.name.list() == name {
             return Some(port);
         }
@@ -141,7 +141,7 @@ fn port_named<'a>(ports: &'a [Port], name: &[u8]) -> Option<&'a Port>
 /// What the port of this name is given, its key resolved in the scope of this number. The error is
 /// want of memory.
 pub(crate) fn source_at(
-    ports: &[Port],
+    ports: &Ports,
     name: &[u8],
     setting: &Setting,
     scope: u32,

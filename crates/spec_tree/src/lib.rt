@@ -8,5 +8,5 @@ mod term;
 
 pub use built_ins::{Class, Range};
 pub use cell::{Cell, Naming};
-pub use ports::Ports;
+pub use ports::{Joined, Ports, PortsLeft};
 pub use term::{Guards, Kind, Port, PortValue, Term, Tree};

@@ -65,7 +65,7 @@ fn guards_text(alloc: Global, guards: &Guards) -> Result<String, AllocError> {
 fn put_head(alloc: Global, term: &Term, out: &mut String) -> Result<(), AllocError> {
     let (id, name) = (text(&term.id), text(&term.name));
     out.push_str(format!(in alloc; "{:?} {id} {name}", term.kind)?.as_str())?;
-    for port in term.ports.list() {
+    for port in term.ports.iter() {
         out.push_str(port_text(alloc, port)?.as_str())?;
     }
     if term.autoremap {

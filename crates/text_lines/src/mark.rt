@@ -11,7 +11,7 @@ use base_texts::{Name, NoMemory, Shared};
 use itoa::Buffer;
 use script_reader::is_identifier;
 use spec_script::{Script, Value};
-use spec_tree::{Guards, Kind, Port, PortValue, Term};
+use spec_tree::{Guards, Kind, Port, PortValue, Ports, Term};
 use std::alloc::Global;
 
 /// Adds a byte of a value that stands between two `"`: where it cannot stand there itself, a
@@ -105,11 +105,11 @@ fn put_port(out: &mut Vec<u8>, port: &Port) -> Result<(), NoMemory>
 }
 
 /// Adds the attributes of ports, in order. The error is want of memory.
-fn put_ports(out: &mut Vec<u8>, ports: &[Port]) -> Result<(), NoMemory>
+fn put_ports(out: &mut Vec<u8>, ports: &Ports) -> Result<(), NoMemory>
     ensures { OnOk result (out.new.items
         ≡ out.old.items ++ flat_map attribute_text (map port_attribute ports.now)) }
 {
-    for port in ports {
+    for port in ports.iter() {
         put_port(out, port)?;
     }
     Ok(())
@@ -222,7 +222,7 @@ fn put_node(out: &mut Vec<u8>, term: &Term) -> Result<(), NoMemory>
     put_bytes(out, name_by(compact, term))?;
     put_identity(out, compact, term)?;
     put_autoremap(out, term.autoremap)?;
-    put_ports(out, term.ports.list())?;
+    put_ports(out, &term.ports)?;
     put_script(out, b"code", &term.code)?;
     put_guards(out, &term.guards)?;
     Ok(())

@@ -10,7 +10,7 @@ use crate::naming::uid_after;
 use crate::slots::{Slots, own_slot, slot_count};
 use base_texts::NoMemory;
 use spec_script::Value;
-use spec_tree::{Kind, Port, PortValue, Term, Tree};
+use spec_tree::{Kind, Port, PortValue, Ports, Term, Tree};
 use std::alloc::Global;
 use std::marker::Model;
 
@@ -77,7 +77,7 @@ fn put_literal(
 /// Puts the literals of a SubTree node's ports into their cells.
 fn put_literals(
     alloc: Global,
-    ports: &[Port],
+    ports: &Ports,
     uid: u32,
     slots: &Slots,
     entries: &mut Vec<Option<Value>>,
@@ -85,7 +85,7 @@ fn put_literals(
     ensures { OnOk result (entries.new.items ≡
         with_literals slots.now.cells (flat_map (λ port. value_literals port.value port.name uid) ports.now) entries.old.items) }
 {
-    for port in ports {
+    for port in ports.iter() {
         put_literal(alloc, port, uid, slots, entries)?;
     }
     Ok(())
@@ -102,7 +102,7 @@ fn open_node(
     ensures { OnOk result (entries.new.items ≡ with_literals slots.now.cells (node_literals node.now uid) entries.old.items) }
 {
     if let Kind::SubTree = node.kind {
-        put_literals(alloc, node.ports.list(), uid, slots, entries)?;
+        put_literals(alloc, &node.ports, uid, slots, entries)?;
     }
     Ok(())
 }

@@ -8,7 +8,7 @@ ghost use Rattle.tree_board.specs.Namings.{name_count, own_name_count, script_na
 use crate::slots::{slot_count, slots_of};
 use base_texts::{NoMemory, Shared};
 use spec_script::{Expr, Script, Stmt};
-use spec_tree::{Guards, Kind, Port, PortValue, Term, Tree};
+use spec_tree::{Guards, Kind, PortValue, Ports, Term, Tree};
 use std::alloc::Global;
 
 /// Counts down from `left` by the names in an expression. None where it has more than `left`; so in all
@@ -73,11 +73,11 @@ fn left_by_scripts(code: &Option<Shared<Script>>, guards: &Guards, left: usize) 
 }
 
 /// Counts down by the keys that the ports of a node name.
-fn left_by_values(ports: &[Port], left: usize) -> Option<usize>
+fn left_by_values(ports: &Ports, left: usize) -> Option<usize>
     ensures { IfSome result (λ rest. length (flat_map (λ port. value_keys port.value) ports.now) + rest ≤ left) }
 {
     let mut rest = left;
-    for port in ports {
+    for port in ports.iter() {
         if let PortValue::Key(_) = &port.value {
             rest = rest.checked_sub(1)?;
         }
@@ -90,9 +90,9 @@ fn left_by_node(node: &Term, left: usize) -> Option<usize>
     ensures { IfSome result (λ rest. own_name_count (out-Term node.now) + rest ≤ left) }
 {
     let left = left_by_scripts(&node.code, &node.guards, left)?;
-    let left = left_by_values(node.ports.list(), left)?;
+    let left = left_by_values(&node.ports, left)?;
     match node.kind {
-        Kind::SubTree => left.checked_sub(node.ports.list().len()),
+        Kind::SubTree => left.checked_sub(node.ports.len()),
         _ => Some(left),
     }
 }

@@ -14,7 +14,7 @@ use crate::rows::Namings;
 use crate::scope::{Scope, cell_in, mappings_of, scope_number};
 use base_texts::{NoMemory, Shared};
 use spec_script::{Expr, Script, Stmt};
-use spec_tree::{Guards, Kind, Port, PortValue, Term, Tree};
+use spec_tree::{Guards, Kind, PortValue, Ports, Term, Tree};
 use std::alloc::Global;
 
 /// Adds the names that an expression looks at.
@@ -87,10 +87,10 @@ fn name_scripts(
 }
 
 /// Adds the keys that the ports of a node name in the scope in which it stands.
-fn name_values(alloc: Global, ports: &[Port], keys: &mut Keys) -> Result<(), NoMemory>
+fn name_values(alloc: Global, ports: &Ports, keys: &mut Keys) -> Result<(), NoMemory>
     ensures { OnOk result (keys.new ≡ insert_all bytes_eq keys.old (flat_map (λ port. value_keys port.value) ports.now)) }
 {
-    for port in ports {
+    for port in ports.iter() {
         if let PortValue::Key(key) = &port.value {
             keys.name(alloc, key)?;
         }
@@ -99,10 +99,10 @@ fn name_values(alloc: Global, ports: &[Port], keys: &mut Keys) -> Result<(), NoM
 }
 
 /// Adds the names of ports: their SubTree node names them in the scope that it makes.
-fn name_ports(alloc: Global, ports: &[Port], keys: &mut Keys) -> Result<(), NoMemory>
+fn name_ports(alloc: Global, ports: &Ports, keys: &mut Keys) -> Result<(), NoMemory>
     ensures { OnOk result (keys.new ≡ insert_all bytes_eq keys.old (map (λ port. port.name) ports.now)) }
 {
-    for port in ports {
+    for port in ports.iter() {
         keys.name(alloc, &port.name)?;
     }
     Ok(())
@@ -113,7 +113,7 @@ fn name_node(alloc: Global, node: &Term, keys: &mut Keys) -> Result<(), NoMemory
     ensures { OnOk result (keys.new ≡ insert_all bytes_eq keys.old (keys_of_node node.now)) }
 {
     name_scripts(alloc, &node.code, &node.guards, keys)?;
-    name_values(alloc, node.ports.list(), keys)
+    name_values(alloc, &node.ports, keys)
 }
 
 /// The uid after one. A tree with 2^32 nodes does not fit into memory, so `NoMemory` stands for there being none.
@@ -161,7 +161,7 @@ fn name_subtree(
 {
     let first = uid_after(uid)?;
     name_node(alloc, term, keys)?;
-    let ports = term.ports.list();
+    let ports = &term.ports;
     let mappings = mappings_of(alloc, uid, ports, term.autoremap, scope)?;
     let inner = Scope::Below(&mappings, &*scope);
     let mut inner_keys = Keys::new(alloc);

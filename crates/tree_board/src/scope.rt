@@ -7,7 +7,7 @@ ghost use Rattle.tree_board.specs.Scopes.{number_of, cells_of, cells_below, cell
 
 use base_texts::{Name, NoMemory};
 use indexmap::IndexMap;
-use spec_tree::{Cell, Port, PortValue};
+use spec_tree::{Cell, Port, PortValue, Ports};
 use std::alloc::Global;
 
 /// A scope while the names of a tree are resolved.
@@ -100,7 +100,7 @@ fn add_port(
 pub(crate) fn mappings_of(
     alloc: Global,
     uid: u32,
-    ports: &[Port],
+    ports: &Ports,
     autoremap: bool,
     outer: &Scope,
 ) -> Result<Mappings, NoMemory>
@@ -109,7 +109,7 @@ pub(crate) fn mappings_of(
         scope_below uid ports.now autoremap (cells_of outer.now) key) }
 {
     let mut cells = IndexMap::new(alloc);
-    for port in ports {
+    for port in ports.iter() {
         add_port(alloc, port, uid, outer, &mut cells)?;
     }
     Ok(Mappings {

@@ -1,5 +1,7 @@
 -- The defaults of a model, found out once, are those that are read port by port.
-use Rattle.std.proofs.Common.{◌≡◌, ℕ, Bool, true, false, List, [], ◌∷◌, ◌++◌, length, Option, Some, None, Result, Ok, Err, cond, refl, ap, sym, ◌∙◌, append_assoc, append-nil}
+use Rattle.std.proofs.Common.{◌≡◌, ℕ, ◌+◌, ◌-◌, ◌<◌, ◌≤◌, Bool, true, false, List, [], ◌∷◌, ◌++◌, length, take, drop, get_or, Option, Some, None, Result, Ok, Err, cond, refl, ap, sym, ◌∙◌, append_assoc, append-nil, arith}
+use Rattle.std.proofs.Math.Seq.{take-length}
+use Rattle.std.proofs.lemmas.List.{drop_all, drop_more, get_or-drop, length-drop, take_more}
 use Rattle.std.specs.Prelude.{not, is_some, filter, option_map, ◌&&◌, ◌||◌, if◌then◌else◌}
 use Rattle.std.specs.List.{cons_option, list_all}
 use Rattle.std.specs.Str.{bytes_eq}
@@ -140,14 +142,76 @@ added_by uid attributes looked ports all list model names b l n e is d a =
     by_test uid attributes ports model true (written_same attributes looked model names b l n e ∙ is)
     ∙ ap (λ (ps : List Port). Ok ps) (sym (a ∙ ap (λ (x : Attributes). with_defaults x ports list) l ∙ ap (with_defaults attributes ports) d))
 
--- where no port is written
-pub shared_by : (uid : ℕ) (attributes looked : Attributes) (ports shared : List Port) (model : List ModelPort) (names : List (List ℕ)) (b : Bool) → looked ≡ attributes → names ≡ faulty_names model →
-    b ≡ all_written looked names → b ≡ true → ports ≡ [] → writes_none model attributes ≡ true → shared ≡ defaults_of model → with_model uid attributes ports model ≡ Ok shared
-shared_by uid attributes looked ports shared model names b l n e is none w s =
-    by_test uid attributes ports model true (written_same attributes looked model names b l n e ∙ is)
-    ∙ ap (λ (ps : List Port). Ok (with_defaults attributes ps (defaults_of model))) none
-    ∙ ap (λ (ps : List Port). Ok ps) (defaults_whole attributes model w ∙ sym s)
+-- ---- The defaults that are not written, row by row
 
-pub empty_by : (ports : List Port) → length ports ≡ 0 → ports ≡ []
-empty_by [] h = refl
-empty_by (port ∷ more) h = absurd (cc)
+abbrev kept : Attributes → List Port → List Port
+kept attributes defaults = filter (λ (port : Port). is_absent attributes port.name) defaults
+
+-- Those that were added, those from a place on and before another, which are to be added, and those of the others that are not written.
+abbrev pub so_far : Attributes → List Port → List Port → ℕ → ℕ → List Port
+so_far attributes ports defaults from place = ports ++ (take (place - from) (drop from defaults) ++ kept attributes (drop place defaults))
+
+none_between : (n : ℕ) → n - n ≡ 0
+none_between n = omega arith
+
+-- at the beginning
+pub at_first : (attributes : Attributes) (ports defaults : List Port) → so_far attributes ports defaults 0 0 ≡ with_defaults attributes ports defaults
+at_first attributes ports defaults = refl
+
+kept_first : (attributes : Attributes) (defaults : List Port) (place : ℕ) (port : Port) → place < length defaults → port ≡ get_or defaults place port →
+    kept attributes (drop place defaults) ≡ cond (is_absent attributes port.name) (port ∷ kept attributes (drop (place + 1) defaults)) (kept attributes (drop (place + 1) defaults))
+kept_first attributes defaults place port h is =
+    ap (kept attributes) (drop_more defaults place port h)
+    ∙ ap (λ (p : Port). kept attributes (p ∷ drop (place + 1) defaults)) (sym is)
+
+-- past a port that is written
+pub past_written : (attributes : Attributes) (ports added defaults : List Port) (from place : ℕ) (port : Port) → place < length defaults → port ≡ get_or defaults place port →
+    is_absent attributes port.name ≡ false → added ≡ ports ++ take (place - from) (drop from defaults) →
+    so_far attributes added defaults (place + 1) (place + 1) ≡ so_far attributes ports defaults from place
+past_written attributes ports added defaults from place port h is written a =
+    let rest = kept attributes (drop (place + 1) defaults) in
+    ap (λ (n : ℕ). added ++ (take n (drop (place + 1) defaults) ++ rest)) (none_between (place + 1))
+    ∙ ap (λ (ps : List Port). ps ++ rest) a
+    ∙ append_assoc ports (take (place - from) (drop from defaults)) rest
+    ∙ ap (λ (ps : List Port). ports ++ (take (place - from) (drop from defaults) ++ ps))
+      (sym (kept_first attributes defaults place port h is ∙ ap (λ (b : Bool). cond b (port ∷ rest) rest) written))
+
+one_after : (place from : ℕ) → from ≤ place → place + 1 - from ≡ (place - from) + 1
+one_after place from h = omega (arith, h)
+
+row_more : (defaults : List Port) (from place : ℕ) (port : Port) → from ≤ place → place < length defaults → port ≡ get_or defaults place port →
+    take (place + 1 - from) (drop from defaults) ≡ take (place - from) (drop from defaults) ++ port ∷ []
+row_more defaults from place port o h is =
+    let there : from + (place - from) ≡ place = omega (arith, o) in
+    let some : place - from < length (drop from defaults) = omega (arith, o, h, length-drop from defaults) in
+    ap (λ (n : ℕ). take n (drop from defaults)) (one_after place from o)
+    ∙ take_more (drop from defaults) (place - from) port some
+    ∙ ap (λ (p : Port). take (place - from) (drop from defaults) ++ p ∷ [])
+      (get_or-drop from defaults (place - from) port ∙ ap (λ (n : ℕ). get_or defaults n port) there ∙ sym is)
+
+-- past a port that is not
+pub past_absent : (attributes : Attributes) (ports defaults : List Port) (from place : ℕ) (port : Port) → from ≤ place → place < length defaults → port ≡ get_or defaults place port →
+    is_absent attributes port.name ≡ true → so_far attributes ports defaults from (place + 1) ≡ so_far attributes ports defaults from place
+past_absent attributes ports defaults from place port o h is absent =
+    let rest = kept attributes (drop (place + 1) defaults) in
+    let row = take (place - from) (drop from defaults) in
+    ap (λ (ps : List Port). ports ++ (ps ++ rest)) (row_more defaults from place port o h is)
+    ∙ ap (λ (ps : List Port). ports ++ ps) (append_assoc row (port ∷ []) rest)
+    ∙ ap (λ (ps : List Port). ports ++ (row ++ ps))
+      (sym (kept_first attributes defaults place port h is ∙ ap (λ (b : Bool). cond b (port ∷ rest) rest) absent))
+
+-- at the end
+pub at_last : (attributes : Attributes) (ports added defaults : List Port) (from place : ℕ) → length defaults ≤ place → place ≤ length defaults →
+    added ≡ ports ++ take (length defaults - from) (drop from defaults) → added ≡ so_far attributes ports defaults from place
+at_last attributes ports added defaults from place high low a =
+    let end : length defaults ≡ place = omega (arith, high, low) in
+    a ∙ ap (λ (n : ℕ). ports ++ take (n - from) (drop from defaults)) end
+    ∙ ap (λ (ps : List Port). ports ++ ps) (sym (append-nil (take (place - from) (drop from defaults))))
+    ∙ ap (λ (ps : List Port). ports ++ (take (place - from) (drop from defaults) ++ kept attributes ps)) (sym (drop_all place defaults high))
+
+-- where no port is written
+pub all_added : (attributes : Attributes) (ports added list : List Port) (model : List ModelPort) → list ≡ defaults_of model → writes_none model attributes ≡ true →
+    added ≡ ports ++ take (length list - 0) (drop 0 list) → added ≡ with_defaults attributes ports (defaults_of model)
+all_added attributes ports added list model d w a =
+    let whole : length list - 0 ≡ length list = omega arith in
+    a ∙ ap (λ (n : ℕ). ports ++ take n list) whole ∙ ap (λ (ps : List Port). ports ++ ps) (take-length list ∙ d ∙ sym (defaults_whole attributes model w))

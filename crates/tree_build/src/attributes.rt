@@ -44,6 +44,13 @@ impl<'a> Attributes<'a> {
         Ok(Attributes { list, names })
     }
 
+    /// Lends the attributes.
+    pub fn list(&self) -> &[(Name, Name)]
+        ensures { result.now ≡ self.now }
+    {
+        self.list
+    }
+
     /// Whether an attribute has this name. It allocates nothing.
     pub fn has(&self, name: &[u8]) -> bool
         ensures { result ≡ is_some (value_of name.now self.now) }

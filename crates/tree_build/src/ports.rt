@@ -1,4 +1,4 @@
-ghost use Rattle.std.specs.Prelude.{◌≡◌, [], is_some, map, not, IsUtf8, IfOk};
+ghost use Rattle.std.specs.Prelude.{◌≡◌, [], is_some, map, not, IsUtf8, OnOk};
 ghost use Rattle.std.specs.List.{list_all};
 ghost use Rattle.base_texts.specs.Stops.{Gives};
 ghost use Rattle.base_tables.specs.BuiltInRows.{rule_seen};
@@ -6,12 +6,13 @@ ghost use Rattle.tree_build.specs.ContentSteps.{is_modelled, ports_in, with_attr
 ghost use Rattle.spec_tree_file.specs.Attributes.{value_of};
 ghost use Rattle.tree_build.specs.Gives.{GivesList};
 ghost use Rattle.tree_build.specs.Seen.{rules_seen};
+ghost use Rattle.tree_manifest.specs.Known.{defaults_of};
 
 use crate::attributes::Attributes;
 use crate::rules::{Rules, is_port, name_fits, range_of};
 use base_tables::PortRule;
-use base_texts::{Name, NoMemory, Stop};
-use spec_tree::{Port, PortValue, Ports, Range};
+use base_texts::{Items, Name, NoMemory, Shared, Stop};
+use spec_tree::{Joined, Port, Ports, Range};
 use spec_tree_file::BuildFault;
 use std::alloc::Global;
 use tree_manifest::{KnownModel, attribute, value};
@@ -132,55 +133,59 @@ fn are_written(attributes: &Attributes<'_>, names: &[Name]) -> bool
     names.iter().all(|name| attributes.has(name.list()))
 }
 
-/// An equal value. A long text is not copied.
-fn copied(alloc: Global, value: &PortValue) -> Result<PortValue, NoMemory>
-    ensures { IfOk result (λ copy. copy ≡ value.now) }
-{
-    match value {
-        PortValue::Lit(value) => Ok(PortValue::Lit(value.copy(alloc)?)),
-        PortValue::Key(key) => Ok(PortValue::Key(key.copy(alloc)?)),
-    }
-}
-
-/// The ports with these defaults, where they are not written. Long texts are not copied.
-fn with_defaults(
-    alloc: Global,
+/// Adds these defaults to the ports, where they are not written. They are not copied.
+fn add_absent(
     attributes: &Attributes<'_>,
-    mut ports: Vec<Port>,
-    defaults: &[Port],
-) -> Result<Vec<Port>, NoMemory>
-    ensures { IfOk result (λ all. all.items ≡ with_defaults attributes.now ports.items defaults.now) }
+    ports: &mut Joined,
+    defaults: &Shared<Items<Port>>,
+) -> Result<(), NoMemory>
+    ensures { OnOk result (ports.new ≡ with_defaults attributes.now ports.old defaults.now) }
 {
-    for port in defaults {
-        if !attributes.has(port.name.list()) {
-            let name = port.name.copy(alloc)?;
-            let value = copied(alloc, &port.value)?;
-            ports.push(Port { name, value })?;
+    let list = defaults.get().list();
+    let mut from = 0;
+    for (place, port) in list.iter().enumerate() {
+        if attributes.has(port.name.list()) {
+            ports.add(defaults, from, place)?;
+            from = place + 1;
         }
     }
-    Ok(ports)
+    ports.add(defaults, from, list.len())
 }
 
-/// The ports with the defaults of a leaf's model, or the first fault. A leaf that writes none has those of its model,
-/// which are not copied.
+/// Adds the defaults of a model to the ports, where they are not written. Most leaves write none, and then no default is
+/// looked at.
+fn add_defaults(
+    attributes: &Attributes<'_>,
+    ports: &mut Joined,
+    model: &KnownModel,
+) -> Result<(), NoMemory>
+    ensures { OnOk result (ports.new ≡ with_defaults attributes.now ports.old (defaults_of model.now.ports)) }
+{
+    let defaults = model.defaults();
+    if writes_none(model, attributes.list()) {
+        ports.add(defaults, 0, defaults.get().list().len())
+    } else {
+        add_absent(attributes, ports, defaults)
+    }
+}
+
+/// The ports with the defaults of a leaf's model, which are kept once for all its leaves, or the first fault.
 fn with_model(
     alloc: Global,
     uid: u32,
     attributes: &[(Name, Name)],
-    ports: Vec<Port>,
+    written: Vec<Port>,
     model: &KnownModel,
 ) -> Result<Ports, Stop<BuildFault>>
-    ensures { Gives result (with_model uid attributes.now ports.items model.now.ports) }
+    ensures { Gives result (with_model uid attributes.now written.items model.now.ports) }
 {
-    let looked = Attributes::of(alloc, attributes)?;
-    if !are_written(&looked, model.faulty()) {
+    let attributes = Attributes::of(alloc, attributes)?;
+    if !are_written(&attributes, model.faulty()) {
         return Err(Stop::Fault(BuildFault::BadLiteral { uid }));
     }
-    if ports.is_empty() && writes_none(model, attributes) {
-        return Ok(model.defaults().share()?);
-    }
-    let ports = with_defaults(alloc, &looked, ports, model.defaults().list())?;
-    Ok(Ports::of(alloc, ports)?)
+    let mut ports = Joined::of(alloc, written)?;
+    add_defaults(&attributes, &mut ports, model)?;
+    Ok(Ports::joined(alloc, ports)?)
 }
 
 /// The ports of a node: those that are written, and then those that have a default. The fault `BadLiteral` where one

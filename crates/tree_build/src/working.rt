@@ -3,7 +3,7 @@ ghost use Rattle.std.specs.Option.{option_to_list};
 ghost use Rattle.spec_tree.specs.Terms.{once_more, times_of, turns_given, turns_of, work_of};
 
 use spec_script::Value;
-use spec_tree::{Kind, Port, PortValue, Term, Tree};
+use spec_tree::{Kind, PortValue, Ports, Term, Tree};
 
 /// How often a Retry or a Repeat whose limit this is visits its child at most in one visit, and a
 /// RecoveryNode its second child.
@@ -18,17 +18,17 @@ fn turns_given(value: &PortValue) -> u64
 }
 
 /// How often such a node with these ports does; its limit is the first.
-fn turns_of(ports: &[Port]) -> u64
+fn turns_of(ports: &Ports) -> u64
     ensures { result ≡ turns_of ports.now }
 {
-    match ports.first() {
+    match ports.iter().next() {
         Some(port) => turns_given(&port.value),
         None => 1,
     }
 }
 
 /// How often a node visits its children at most in one visit.
-fn times_of(kind: Kind, ports: &[Port]) -> u64
+fn times_of(kind: Kind, ports: &Ports) -> u64
     ensures { result ≡ times_of kind ports.now }
 {
     match kind {
@@ -72,7 +72,7 @@ fn work_up_to(term: &Term, most: u64) -> u64
         first = first.or(Some(work));
         below = most.min(below + work);
     }
-    let times = times_of(term.kind, term.ports.list());
+    let times = times_of(term.kind, &term.ports);
     with_own(times, below, once_more(term.kind, first), most)
 }
 

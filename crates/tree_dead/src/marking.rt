@@ -32,7 +32,7 @@ fn mark(
 {
     marks.push(reached)?;
     let before = before_rule(&term.guards);
-    let ports = term.ports.list();
+    let ports = &term.ports;
     let selected = selected_of(term.kind, ports);
     let mut heard = Vec::new(alloc);
     let mut passes = true;

@@ -13,7 +13,7 @@ use itoa::Buffer;
 use spec_dead::Answers;
 use spec_run::Answer;
 use spec_script::Value;
-use spec_tree::{Kind, Port, PortValue};
+use spec_tree::{Kind, Port, PortValue, Ports};
 
 /// What the child at a place may answer; none comes after the last child, and it would be skipped.
 pub(crate) fn answers_at(children: &[Answers], place: usize) -> Answers
@@ -78,10 +78,10 @@ pub(crate) fn goes_of(kind: Kind) -> Answer
 }
 
 /// The port of this name; none where there is no such port.
-fn port_named<'a>(ports: &'a [Port], name: &[u8]) -> Option<&'a Port>
+fn port_named<'a>(ports: &'a Ports, name: &[u8]) -> Option<&'a Port>
     ensures { option_copied result ≡ port_of ports.now name.now }
 {
-    for port in ports {
+    for port in ports.iter() {
         if port.name.list() == name {
             return Some(port);
         }
@@ -90,7 +90,7 @@ fn port_named<'a>(ports: &'a [Port], name: &[u8]) -> Option<&'a Port>
 }
 
 /// What the port of this name is given; none where there is no such port.
-pub(crate) fn given<'a>(ports: &'a [Port], name: &[u8]) -> Option<&'a PortValue>
+pub(crate) fn given<'a>(ports: &'a Ports, name: &[u8]) -> Option<&'a PortValue>
     ensures { option_copied result ≡ given_by (port_of ports.now name.now) }
 {
     match port_named(ports, name) {
@@ -111,7 +111,7 @@ fn has_text(value: &Value, text: &[u8]) -> bool
 
 /// The place of the first of these cases that has this text, or the place after them; none where
 /// one of them is given a key.
-fn literal_place(cases: &[PortRule], ports: &[Port], text: &[u8]) -> Option<usize>
+fn literal_place(cases: &[PortRule], ports: &Ports, text: &[u8]) -> Option<usize>
     ensures place { result ≡ literal_place (map rule_seen cases.now) ports.now text.now }
     ensures few { IfSome result (λ place. place ≤ length cases.now) }
 {
@@ -135,7 +135,7 @@ fn literal_place(cases: &[PortRule], ports: &[Port], text: &[u8]) -> Option<usiz
 
 /// The child that a Switch with such ports always selects, where there is one: its first port is
 /// the variable, and the others are the cases.
-fn always_selected(rules: &[PortRule], ports: &[Port]) -> Option<usize>
+fn always_selected(rules: &[PortRule], ports: &Ports) -> Option<usize>
     ensures { result ≡ always_selected (map rule_seen rules.now) ports.now }
 {
     match rules {
@@ -151,7 +151,7 @@ fn always_selected(rules: &[PortRule], ports: &[Port]) -> Option<usize>
 }
 
 /// The child that a node always selects, where it is a Switch and there is one.
-pub(crate) fn selected_of(kind: Kind, ports: &[Port]) -> Option<usize>
+pub(crate) fn selected_of(kind: Kind, ports: &Ports) -> Option<usize>
     ensures { result ≡ selected_of kind ports.now }
 {
     match kind {
@@ -193,14 +193,14 @@ pub(crate) fn is_zero(number: Option<&PortValue>) -> bool
 }
 
 /// Whether a RecoveryNode of these ports, whose first child may answer so, may visit its second.
-pub(crate) fn may_recover(ports: &[Port], first: Answers) -> bool
+pub(crate) fn may_recover(ports: &Ports, first: Answers) -> bool
     ensures { result ≡ may_recover ports.now first }
 {
     first.failure && !is_zero(given(ports, b"number_of_retries"))
 }
 
 /// Whether a RecoveryNode may visit the child at a place.
-fn recovery_reached(ports: &[Port], first: Answers, place: usize) -> bool
+fn recovery_reached(ports: &Ports, first: Answers, place: usize) -> bool
     ensures { result ≡ recovery_reached ports.now first place }
 {
     match place {
@@ -214,7 +214,7 @@ fn recovery_reached(ports: &[Port], first: Answers, place: usize) -> bool
 /// answer, and whether all of them may let it go on. `selected` is the child that it always selects.
 pub(crate) fn reaches(
     kind: Kind,
-    ports: &[Port],
+    ports: &Ports,
     selected: Option<usize>,
     earlier: &[Answers],
     passes: bool,

@@ -10,7 +10,7 @@ use crate::reached::{
 use spec_dead::Answers;
 use spec_run::Answer;
 use spec_script::Value;
-use spec_tree::{Kind, Port, PortValue};
+use spec_tree::{Kind, PortValue, Ports};
 
 /// Whether each child may be skipped.
 fn all_skip(children: &[Answers]) -> bool
@@ -81,7 +81,7 @@ fn robin_answers(children: &[Answers]) -> Answers
 }
 
 /// What a RecoveryNode may answer, whose children may answer so.
-fn recovery_answers(ports: &[Port], first: Answers, second: Answers) -> Answers
+fn recovery_answers(ports: &Ports, first: Answers, second: Answers) -> Answers
     ensures { result ≡ recovery_answers ports.now first second }
 {
     let runs = may_recover(ports, first) && second.running;
@@ -154,7 +154,7 @@ fn never_skips(then_skip: Option<&PortValue>) -> bool
 }
 
 /// What a decorator or SubTree may answer, whose child may answer so.
-fn decorator_answers(kind: Kind, ports: &[Port], child: Answers) -> Answers
+fn decorator_answers(kind: Kind, ports: &Ports, child: Answers) -> Answers
     ensures { result ≡ decorator_answers kind ports.now child }
 {
     match kind {
@@ -185,7 +185,7 @@ fn decorator_answers(kind: Kind, ports: &[Port], child: Answers) -> Answers
 /// is the child that it always selects.
 pub(crate) fn rule_answers(
     kind: Kind,
-    ports: &[Port],
+    ports: &Ports,
     selected: Option<usize>,
     children: &[Answers],
 ) -> Answers

@@ -2,8 +2,8 @@ ghost use Rattle.std.specs.Prelude.{◌≡◌, ◌++◌, [], IfOk, OnOk, option_
 ghost use Rattle.tree_manifest.specs.Known.{default_of, defaults_of, faulty_name, faulty_names};
 
 use crate::values::value;
-use base_texts::{Name, NoMemory};
-use spec_tree::{Port, Ports, Range};
+use base_texts::{Items, Name, NoMemory, Shared};
+use spec_tree::{Port, Range};
 use spec_tree_file::ModelPort;
 use std::alloc::Global;
 
@@ -11,7 +11,7 @@ use std::alloc::Global;
 #[derive(Drop)]
 pub struct Defaults {
     /// The ports of a leaf that writes none.
-    pub ports: Ports,
+    pub ports: Shared<Items<Port>>,
     /// The names of the ports whose default may not stand.
     pub faulty: Vec<Name>,
 }
@@ -48,6 +48,6 @@ pub fn defaults_of(alloc: Global, model: &[ModelPort]) -> Result<Defaults, NoMem
             add_default(alloc, port, text, &mut ports, &mut faulty)?;
         }
     }
-    let ports = Ports::of(alloc, ports)?;
+    let ports = Shared::of(alloc, Items::of(ports))?;
     Ok(Defaults { ports, faulty })
 }

@@ -4,8 +4,8 @@ ghost use Rattle.std.specs.Str.{bytes_eq};
 ghost use Rattle.tree_manifest.specs.Known.{AreNames, defaults_of, faulty_names};
 
 use crate::defaults::{Defaults, defaults_of};
-use base_texts::{Name, NoMemory};
-use spec_tree::Ports;
+use base_texts::{Items, Name, NoMemory, Shared};
+use spec_tree::Port;
 use spec_tree_file::{ModelPort, NodeModel};
 use std::alloc::Global;
 use std::collections::BTreeSet;
@@ -55,7 +55,7 @@ impl KnownModel {
     }
 
     /// Lends the ports of a leaf that writes none: each that has a default that may stand.
-    pub fn defaults(&self) -> &Ports
+    pub fn defaults(&self) -> &Shared<Items<Port>>
         ensures { result.now ≡ defaults_of self.now.ports }
     {
         &self.defaults.ports

@@ -70,7 +70,7 @@ fn node_text(alloc: Global, node: &Term) -> Result<String, NoMemory> {
         _ => "",
     };
     let mut text = format!(in alloc; "{sort}{} '{}'", shown(&node.id), shown(&node.name))?;
-    for port in node.ports.list() {
+    for port in node.ports.iter() {
         text.push_str(port_text(alloc, port)?.as_str())?;
     }
     text.push_str(script_text(alloc, "code", &node.code)?.as_str())?;

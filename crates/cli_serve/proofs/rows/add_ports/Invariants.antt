@@ -1,4 +1,4 @@
-use Rattle.std.proofs.Common.{◌≡◌, drop}
+use Rattle.std.proofs.Common.{◌≡◌}
 use Rattle.spec_serve.specs.Rows.{with_names}
 use Rattle.spec_tree.specs.Trees.{names_of}
 use Rattle.cli_serve.proofs.rows.add_ports.Given as goal
@@ -7,5 +7,5 @@ use Rattle.cli_serve.proofs.rows.add_ports.Given as goal
 abbrev pub invariant-loop-port : goal.invariant-loop-port
 invariant-loop-port l = record {
   condition : l.leaf-inside.is_condition ≡ l.fn.leaf.condition;
-  ports : with_names (names_of (drop l.port-index l.ports)) l.leaf-inside.ports.items ≡ with_names (names_of l.ports) l.fn.leaf.ports;
+  ports : with_names (names_of l.port-iterator) l.leaf-inside.ports.items ≡ with_names (names_of l.ports) l.fn.leaf.ports;
 }

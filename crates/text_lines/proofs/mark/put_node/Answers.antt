@@ -15,4 +15,4 @@ returns c =
     (map port_attribute node.ports) (script_attribute (codes "code") node.code) (guard_attributes node.guards) in
     let named = rw c.is_compact-compact.ensures at c.name_by.ensures in
     let identity = rw c.is_compact-compact.ensures at c.in_ok-put_identity.ensures in
-    cc (texts, named, c.list.ensures, c.in_ok-put_bytes.ensures, identity, c.in_ok-put_autoremap.ensures, c.in_ok-put_ports.ensures, c.in_ok-put_script.ensures, c.in_ok-put_guards.ensures)
+    cc (texts, named, c.in_ok-put_bytes.ensures, identity, c.in_ok-put_autoremap.ensures, c.in_ok-put_ports.ensures, c.in_ok-put_script.ensures, c.in_ok-put_guards.ensures)

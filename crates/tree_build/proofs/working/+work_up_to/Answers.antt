@@ -18,7 +18,7 @@ returns t c =
     let once : more ≡ min most (once_more node.kind (map work_of items)) =
     c.once_more.ensures ∙ ap (λ (o : Option ℕ). once_more node.kind (option_to_list o)) first ∙ more_up_to node.kind most items in
     c.with_own.ensures
-    ∙ ap (λ (times : ℕ). min most (1 + (times * below + more))) (c.times_of-times.ensures ∙ ap (times_of node.kind) c.list.ensures)
+    ∙ ap (λ (times : ℕ). min most (1 + (times * below + more))) c.times_of-times.ensures
     ∙ limited most (times_of node.kind node.ports) below (sum (map work_of items)) more (once_more node.kind (map work_of items)) c.loop-child.invariant.small value once
     ∙ ap (λ (xs : List Term). min most (1 + (times_of node.kind node.ports * sum (map work_of xs) + once_more node.kind (map work_of xs)))) c.list-child-items.ensures
     ∙ ap (λ (work : ℕ). min most work) (sym (work_of-term c.args.term.now))

@@ -25,8 +25,8 @@ loop-child-preserved t c =
     let here = terms_here items i c.child-item.result c.loop-child-test.true c.child-item.is in
     let known = c.loop-child.invariant in
     let answer = heard_here c.loop-child.heard.items (all_answers items) c.child-item.result (drop i items) (drop (i + 1) items) i here known.many known.heard in
-    let by_rule = rule_here node.kind c.list-ports.result.now node.ports c.loop-child.heard.items c.as_slice.result.now (all_answers (drop i items)) (all_answers items) i c.loop-child.passes c.reaches-by_rule.result
-    c.list-ports.ensures c.as_slice.ensures.value known.many known.heard known.passes (c.reaches-by_rule.ensures (all_answers (drop i items)) c.selected_of-selected.ensures)
+    let by_rule = rule_here node.kind node.ports node.ports c.loop-child.heard.items c.as_slice.result.now (all_answers (drop i items)) (all_answers items) i c.loop-child.passes c.reaches-by_rule.result
+    refl c.as_slice.ensures.value known.many known.heard known.passes (c.reaches-by_rule.ensures (all_answers (drop i items)) c.selected_of-selected.ensures)
     in
     let comes = comes_here c.before_rule-before.result (before_rule node.guards) c.args.reached c.reaches-by_rule.result _ c.visits-comes.result c.before_rule-before.ensures by_rule c.visits-comes.ensures in
     record {
@@ -43,8 +43,9 @@ loop-child-preserved t c =
 pub returns-clause-answers : goal.returns-clause-answers
 returns-clause-answers t c =
     let items = c.list-child-items.result.now in
+    let node = out-Term c.args.term.now in
     let none = drop_all c.loop-child.child-index items c.loop-child-test.false in
-    node_end c.args.term.now items c.before_rule-before.result c.list-ports.result.now c.loop-child.heard.items c.as_slice-2.result.now c.rule_answers-rule.result c.then.result
-    c.list-child-items.ensures c.before_rule-before.ensures c.list-ports.ensures c.as_slice-2.ensures.value
+    node_end c.args.term.now items c.before_rule-before.result node.ports c.loop-child.heard.items c.as_slice-2.result.now c.rule_answers-rule.result c.then.result
+    c.list-child-items.ensures c.before_rule-before.ensures refl c.as_slice-2.ensures.value
     (ap (λ ts. c.loop-child.heard.items ++ all_answers ts) (sym none) ∙ c.loop-child.invariant.heard)
     c.rule_answers-rule.ensures c.then.ensures

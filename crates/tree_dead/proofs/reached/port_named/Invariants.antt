@@ -1,7 +1,7 @@
-use Rattle.std.proofs.Common.{◌≡◌, drop}
+use Rattle.std.proofs.Common.{◌≡◌}
 use Rattle.spec_tree.specs.Boards.{port_of}
 use Rattle.tree_dead.proofs.reached.port_named.Given as goal
 
 -- the first among the ports still to come is the first of all
 abbrev pub invariant-loop-port : goal.invariant-loop-port
-invariant-loop-port l = port_of (drop l.port-index l.ports) l.name ≡ port_of l.ports l.name
+invariant-loop-port l = port_of l.port-iterator l.name ≡ port_of l.ports l.name
