@@ -177,15 +177,14 @@ part_among of turn drivers runs are first r is new facts1 drivers1 nodes result 
     (ends of.tree of.world runners facts drivers are.fit (number - 1) r is number runs.last at refl new facts1 drivers1 nodes old told _ result
     (subst (λ (n : ℕ). Meets r.arena.nodes.items at (memory_of t 1) result (scene_of r facts drivers) (scene_of new facts1 drivers1) old told (part_of turn.part of.tree of.world n (memory_of t 1 r.arena.kept.items) (state_of_runner r facts drivers at))) number_is m))
 
--- the entries of a runner's blackboard that changed, among all runners
-pub entries_among : (runners : List ReadyRunner) (number : ℕ) (r : ReadyRunner) → slice_get runners (number - 1) ≡ Some r → (new : ReadyRunner) (ended : Result (Unit {0}) (Stop NodeFault)) (told : Result (Unit {0}) NoMemory)
-    (before after : List (ℕ × ℕ × Value)) → UnlessMemory ended (OnOk told (after ≡ before ++ changed_entries number 0 r.board new.board)) →
+-- the entries of a runner's blackboard that changed since it was `past`, among all runners
+pub entries_among : (runners : List ReadyRunner) (number : ℕ) (r : ReadyRunner) → slice_get runners (number - 1) ≡ Some r → (past : List (Option Value)) → nth_board runners number ≡ past →
+    (new : ReadyRunner) (ended : Result (Unit {0}) (Stop NodeFault)) (told : Result (Unit {0}) NoMemory) (before after : List (ℕ × ℕ × Value)) → UnlessMemory ended (OnOk told (after ≡ before ++ changed_entries number 0 past new.board)) →
     UnlessMemory ended (OnOk told (after ≡ before ++ changed_entries number 0 (nth_board runners number) (nth_board (set runners (number - 1) new) number)))
-entries_among runners number r is new ended told before after said =
+entries_among runners number r is past was new ended told before after said =
     let board : ReadyRunner → List (Option Value) = λ x. x.board in
     let here : slice_get (boards_in runners) (number - 1) ≡ Some r.board = slice_get-map board runners (number - 1) ∙ ap (option_map board) is in
-    let old_is : nth_board runners number ≡ r.board = get_or_from_slice_get (boards_in runners) (number - 1) r.board [] here in
     let new_is : nth_board (set runners (number - 1) new) number ≡ new.board =
     ap (λ xs. get_or xs (number - 1) []) (map-set board runners (number - 1) new) ∙ get_or-set_same (boards_in runners) (number - 1) new.board [] (within (boards_in runners) (number - 1) r.board here) in
-    subst (λ b. UnlessMemory ended (OnOk told (after ≡ before ++ changed_entries number 0 b (nth_board (set runners (number - 1) new) number)))) (sym old_is)
-    (subst (λ b. UnlessMemory ended (OnOk told (after ≡ before ++ changed_entries number 0 r.board b))) (sym new_is) said)
+    subst (λ b. UnlessMemory ended (OnOk told (after ≡ before ++ changed_entries number 0 b (nth_board (set runners (number - 1) new) number)))) (sym was)
+    (subst (λ b. UnlessMemory ended (OnOk told (after ≡ before ++ changed_entries number 0 past b))) (sym new_is) said)

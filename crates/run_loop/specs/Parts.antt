@@ -1,5 +1,5 @@
 -- One runner's part of an event.
-use Rattle.std.specs.Prelude.{◌≡◌, ◌≤◌, ℕ, ℤ, List, ◌++◌, length, Option, None, Result, Ok, Err}
+use Rattle.std.specs.Prelude.{◌≡◌, ◌≤◌, ℕ, ℤ, List, ◌++◌, ◌∷◌, length, slice_set, Option, None, Result, Ok, Err}
 use Rattle.std.specs.Vec.{vec_capacity}
 use Rattle.base_texts.specs.declared.stop.Stop.{Stop}
 use Rattle.base_texts.specs.declared.stop.Stop.TheVariants as stop
@@ -8,6 +8,9 @@ use Rattle.spec_run.specs.declared.block.Header.TheVariants as header
 use Rattle.spec_run.specs.declared.fault.NodeFault.{NodeFault}
 use Rattle.spec_run.specs.declared.memory.Memory.{Memory}
 use Rattle.spec_run.specs.declared.note.Note.{Note}
+use Rattle.spec_run.specs.declared.note.Note.TheVariants.{Root}
+use Rattle.spec_run.specs.declared.status.Answer.{Answer}
+use Rattle.spec_run.specs.declared.status.Status.{Status}
 use Rattle.spec_script.specs.declared.value.Value.{Value}
 use Rattle.spec_tree.specs.declared.term.Term.{Term}
 use Rattle.spec_tree.specs.declared.term.Tree.{Tree}
@@ -16,11 +19,14 @@ use Rattle.spec_world.specs.declared.world.World.{World}
 use Rattle.spec_run.specs.Done.{Call, Done, State}
 use Rattle.spec_run.specs.Drivers.{DriverState}
 use Rattle.spec_run.specs.Run.{RunState, Runner, Stepped, reset_step, root_reset, root_view, runner_at, runner_calls}
-use Rattle.spec_run.specs.Run.{state_of, step_by, ticked, with_runner}
+use Rattle.spec_run.specs.Run.{settled, state_of, step_by, ticked, with_runner}
+use Rattle.spec_run.specs.Visit.{change}
 use Rattle.base_tables.specs.Sound.{Dated, Sound}
 use Rattle.run_arena.specs.declared.arena.Arena.{Arena}
+use Rattle.run_arena.specs.declared.nodes.Kept.{Kept}
 use Rattle.run_arena.specs.declared.nodes.Node.{Node}
 use Rattle.run_arena.specs.Ends.{Meets}
+use Rattle.run_arena.specs.Nodes.{kept_at}
 use Rattle.run_arena.specs.Noted.{calls_named}
 use Rattle.run_arena.specs.Scenes.{Fits, Scene, scene, state_in}
 use Rattle.run_arena.specs.Stands.{memory_of}
@@ -87,11 +93,27 @@ pub record CanAct (tree : Tree) (world : World) (at : ℕ) (facts : List ℤ) (d
   pub sound : Sound tree.term world.rows None 1 (memory_of tree.term 1 r.arena.kept.items) (state_of_runner r facts drivers at)
   pub dated : Dated (state_of_runner r facts drivers at)
 
+-- the notes of the root's answer, where the root has this status
+abbrev pub root_notes : ℕ → Answer → Status → List Note
+root_notes runner answer st = Root runner answer ∷ change 1 st (settled st)
+
 -- a runner made this part as the definition does, or it was stopped in it
 abbrev pub MeetsPart : Setup → Part → ℕ → Result (Unit {0}) (Stop NodeFault) → ReadyRunner → Scene → Scene → List Note → List Note → Type 0
 MeetsPart of part at result r old new told noted =
     Meets r.arena.nodes.items at (memory_of of.tree.term 1) result old new told noted
     (part_of part of.tree of.world r.arena.runner (memory_of of.tree.term 1 old.kept) (state_in r.arena.nodes.items old at))
+
+-- How a tick of a runner ends after the visit of its root, which came to this: the answer is noted, and a root that has
+-- succeeded or failed is IDLE. Where the visit has no answer, or memory is wanting for a note, the root is unchanged.
+abbrev pub EndsTick : ℕ → Result Answer (Stop NodeFault) → Result (Unit {0}) (Stop NodeFault) → List Kept → List Kept → List Note → List Note → Type 0
+EndsTick runner (Ok answer) (Ok done) old new told noted =
+    (new ≡ slice_set old 1 (record (kept_at old 1) { status = settled (kept_at old 1).status }))
+    × (noted ≡ told ++ root_notes runner answer (kept_at old 1).status)
+EndsTick runner (Ok answer) (Err stop.NoMemory) old new told noted =
+    (new ≡ old) × ((said : List Note) × (unsaid : List Note) × (said ++ unsaid ≡ root_notes runner answer (kept_at old 1).status)
+    × (calls_named said ≡ 0) × (noted ≡ told ++ said))
+EndsTick runner (Err stopped) (Err why) old new told noted = (why ≡ stopped) × (new ≡ old) × (noted ≡ told)
+EndsTick _ _ _ old new told noted = ⊥
 
 -- what no event changes of an arena, and that its room for visits under way does not shrink
 pub record StaysArena (old new : Arena) : Type 0 where

@@ -1,8 +1,7 @@
-ghost use Rattle.std.specs.Prelude.{◌≡◌, IfOk, OnErr};
-ghost use Rattle.run_loop.specs.Hearing.{Tells};
+ghost use Rattle.std.specs.Prelude.{◌≡◌, IfOk};
 
 use base_texts::{Items, NoMemory};
-use spec_world::{Event, Telling, ToldOut, What};
+use spec_world::{Telling, ToldOut};
 use std::alloc::Global;
 
 /// A copy of a value that is told, or want of memory.
@@ -27,46 +26,11 @@ fn copy_outs(alloc: Global, outs: &[ToldOut]) -> Result<Items<ToldOut>, NoMemory
 }
 
 /// A copy of what a leaf is told, or want of memory.
-fn copy_telling(alloc: Global, telling: &Telling) -> Result<Telling, NoMemory>
+pub fn copy_telling(alloc: Global, telling: &Telling) -> Result<Telling, NoMemory>
     ensures { IfOk result (λ copied. copied ≡ telling.now) }
 {
     match telling {
         Telling::Success(outs) => Ok(Telling::Success(copy_outs(alloc, outs.list())?)),
         Telling::Failure => Ok(Telling::Failure),
     }
-}
-
-/// A copy of what an event does. Only what a leaf is told takes memory, of which the error is want.
-fn copy_what(alloc: Global, what: &What) -> Result<What, NoMemory>
-    ensures copied { IfOk result (λ copied. copied ≡ what.now) }
-    ensures telling { OnErr result (Tells what.now) }
-{
-    match what {
-        What::Tick(runner) => Ok(What::Tick(*runner)),
-        What::Halt(runner) => Ok(What::Halt(*runner)),
-        What::Change { fact, value } => Ok(What::Change {
-            fact: *fact,
-            value: *value,
-        }),
-        What::Tell {
-            runner,
-            uid,
-            telling,
-        } => Ok(What::Tell {
-            runner: *runner,
-            uid: *uid,
-            telling: copy_telling(alloc, telling)?,
-        }),
-    }
-}
-
-/// A copy of an event. Only what a leaf is told takes memory, of which the error is want.
-pub fn copy_event(alloc: Global, event: &Event) -> Result<Event, NoMemory>
-    ensures copied { IfOk result (λ copied. copied ≡ event.now) }
-    ensures telling { OnErr result (Tells event.now.what) }
-{
-    Ok(Event {
-        at: event.at,
-        what: copy_what(alloc, &event.what)?,
-    })
 }

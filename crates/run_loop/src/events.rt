@@ -5,15 +5,15 @@ ghost use Rattle.spec_run.specs.Run.{change_step, finish as finish_step, step};
 ghost use Rattle.run_loop.specs.Ending.{CanTell, Closing, IsQuenched, IsTelling};
 ghost use Rattle.run_loop.specs.Hearing.{Tells};
 ghost use Rattle.run_loop.specs.Parts.{CanTake, turn_step};
-ghost use Rattle.run_loop.specs.Runs.{AreRuns, RunsFit, arenas_of, boards_in, leaves_of};
+ghost use Rattle.run_loop.specs.Runs.{AreRuns, RunsFit, arenas_of, boards_in, leaves_of, nth_board};
 ghost use Rattle.spec_run.specs.Served.{Setup};
 ghost use Rattle.run_loop.specs.Steps.{CanCome, EventLeft, HaveRoom, event_side, kept_state};
 
 use crate::beginning::begin;
 use crate::boxed::Roster;
-use crate::copying::copy_event;
+use crate::copying::copy_telling;
 use crate::hearing::{Message, header_of, hear};
-use crate::parts::{Acted, Part, Turn, make_part_of};
+use crate::parts::{Acted, Part, Turn, give_back, make_part};
 use crate::quenching::quench_all;
 use crate::runs::Runs;
 use crate::telling::{tell_fact_in, tell_facts_in};
@@ -23,7 +23,9 @@ use run_driver::{Driver, Drivers};
 use spec_run::{Header, NodeFault, Note, RunFault};
 use spec_world::{Event, What};
 use std::alloc::Global;
+use std::marker::Brand;
 use std::mem;
+use tree_board::{Board, Past, Recorded};
 
 /// Ends runs: quenches all runners, and no further event may come. It allocates no memory.
 fn stop<D: Drivers>(runs: &mut Runs, drivers: &mut D, notes: &mut Notes)
@@ -154,7 +156,7 @@ fn end_event<D: Drivers>(
 
 /// Makes an event of one runner: its part, and the end of the event. The error is the fault of a
 /// node, or want of memory; after either all runners are quenched.
-fn run_part<D: Drivers>(
+fn run_part<D: Drivers, P: Past>(
     alloc: Global,
     turn: Turn,
     runs: &mut Runs,
@@ -162,6 +164,7 @@ fn run_part<D: Drivers>(
     block: &mut Block,
 ) -> Result<(), Stop<RunFault>>
     requires runs { (of : Setup) × CanTake of turn (D.states drivers.old) runs.old }
+    requires past { nth_board runs.old.runners.items turn.runner ≡ P.past }
     requires room { HaveRoom (arenas_of runs.old) block.old.notes }
     ensures { (of : Setup) → CanTake of turn (D.states drivers.old) runs.old →
         let old = event_side (D.states drivers.old) runs.old block.old in
@@ -169,7 +172,13 @@ fn run_part<D: Drivers>(
         EventLeft of result old new (turn_step of turn (kept_state of old)) }
 {
     begin(block, turn.header());
-    let acted = make_part_of(alloc, turn, runs, drivers, block);
+    runs.last = turn.at;
+    let runner = &mut runs.runners[turn.runner as usize - 1];
+    let board = mem::replace(&mut runner.board, Board::empty(alloc));
+    let mut board: Recorded<P> = Recorded::of(board);
+    let (arena, facts, notes) = (&mut runner.arena, &mut runs.facts, &mut block.notes);
+    let ended = make_part(turn, arena, &mut board, facts, drivers, notes);
+    let acted = give_back(alloc, ended, board, turn.runner, runner, block);
     end_event(turn.runner, acted, runs, drivers, block)
 }
 
@@ -204,50 +213,6 @@ fn change_fact<D: Drivers>(
     }
 }
 
-/// Makes an event of runs. The error is the fault of a node, or want of memory; after either all
-/// runners are quenched, and no further event may come.
-fn handle_event<D: Drivers>(
-    alloc: Global,
-    runs: &mut Runs,
-    event: Event,
-    drivers: &mut D,
-    block: &mut Block,
-) -> Result<(), Stop<RunFault>>
-    requires runs { (of : Setup) × AreRuns of.tree of.world (D.states drivers.old) runs.old × CanCome of runs.old.last event }
-    requires room { HaveRoom (arenas_of runs.old) block.old.notes }
-    ensures { (of : Setup) → AreRuns of.tree of.world (D.states drivers.old) runs.old → CanCome of runs.old.last event →
-        let old = event_side (D.states drivers.old) runs.old block.old in
-        let new = event_side (D.states drivers.new) runs.new block.new in
-        EventLeft of result old new (step of.tree of.world event (kept_state of old)) }
-{
-    let Event { at, what } = event;
-    match what {
-        What::Tick(runner) => {
-            let part = Part::Tick;
-            run_part(alloc, Turn { part, runner, at }, runs, drivers, block)
-        }
-        What::Halt(runner) => {
-            let part = Part::Halt;
-            run_part(alloc, Turn { part, runner, at }, runs, drivers, block)
-        }
-        What::Change { fact, value } => change_fact(fact, value, at, runs, drivers, block),
-        What::Tell {
-            runner,
-            uid,
-            telling,
-        } => {
-            let message = Message {
-                runner,
-                uid,
-                telling,
-                at,
-            };
-            hear(message, runs, drivers, block);
-            Ok(())
-        }
-    }
-}
-
 /// Cuts off an event that tells a leaf something, before anything was told, since memory is wanting for it: all runners
 /// are quenched.
 fn cut_off<D: Drivers>(
@@ -276,6 +241,90 @@ fn cut_off<D: Drivers>(
     Err(Stop::NoMemory)
 }
 
+/// Makes an event of runs over any drivers, which stays in its list: what a leaf is told is copied for its driver, and
+/// where memory is wanting for that, nothing was told. The error is the fault of a node, or want of memory; after either
+/// all runners are quenched, and no further event may come.
+pub fn run_listed<D: Drivers>(
+    alloc: Global,
+    runs: &mut Runs,
+    event: &Event,
+    drivers: &mut D,
+    block: &mut Block,
+) -> Result<(), Stop<RunFault>>
+    requires runs { (of : Setup) × AreRuns of.tree of.world (D.states drivers.old) runs.old × CanCome of runs.old.last event.now }
+    requires room { HaveRoom (arenas_of runs.old) block.old.notes }
+    ensures { (of : Setup) → AreRuns of.tree of.world (D.states drivers.old) runs.old → CanCome of runs.old.last event.now →
+        let old = event_side (D.states drivers.old) runs.old block.old in
+        let new = event_side (D.states drivers.new) runs.new block.new in
+        EventLeft of result old new (step of.tree of.world event.now (kept_state of old)) }
+{
+    let at = event.at;
+    match &event.what {
+        What::Tick(runner) => {
+            let (part, runner) = (Part::Tick, *runner);
+            run_part::<D, Brand>(alloc, Turn { part, runner, at }, runs, drivers, block)
+        }
+        What::Halt(runner) => {
+            let (part, runner) = (Part::Halt, *runner);
+            run_part::<D, Brand>(alloc, Turn { part, runner, at }, runs, drivers, block)
+        }
+        What::Change { fact, value } => change_fact(*fact, *value, at, runs, drivers, block),
+        What::Tell {
+            runner,
+            uid,
+            telling,
+        } => match copy_telling(alloc, telling) {
+            Ok(telling) => {
+                let (runner, uid) = (*runner, *uid);
+                let message = Message {
+                    runner,
+                    uid,
+                    telling,
+                    at,
+                };
+                hear(message, runs, drivers, block);
+                Ok(())
+            }
+            Err(NoMemory) => cut_off(event, runs, drivers, block),
+        },
+    }
+}
+
+/// Makes an event of runs, as `run_listed` does, and moves what a leaf is told to its driver.
+fn handle_event<D: Drivers>(
+    alloc: Global,
+    runs: &mut Runs,
+    event: Event,
+    drivers: &mut D,
+    block: &mut Block,
+) -> Result<(), Stop<RunFault>>
+    requires runs { (of : Setup) × AreRuns of.tree of.world (D.states drivers.old) runs.old × CanCome of runs.old.last event }
+    requires room { HaveRoom (arenas_of runs.old) block.old.notes }
+    ensures { (of : Setup) → AreRuns of.tree of.world (D.states drivers.old) runs.old → CanCome of runs.old.last event →
+        let old = event_side (D.states drivers.old) runs.old block.old in
+        let new = event_side (D.states drivers.new) runs.new block.new in
+        EventLeft of result old new (step of.tree of.world event (kept_state of old)) }
+{
+    let Event { at, what } = event;
+    match what {
+        What::Tell {
+            runner,
+            uid,
+            telling,
+        } => {
+            let message = Message {
+                runner,
+                uid,
+                telling,
+                at,
+            };
+            hear(message, runs, drivers, block);
+            Ok(())
+        }
+        what => run_listed(alloc, runs, &Event { at, what }, drivers, block),
+    }
+}
+
 /// Makes an event of runs over any drivers. The error is the fault of a node, or want of memory;
 /// after either all runners are quenched, and no further event may come. What a leaf is told is moved to its driver.
 pub fn run_event<D: Drivers>(
@@ -296,27 +345,28 @@ pub fn run_event<D: Drivers>(
     handle_event(alloc, runs, event, drivers, block)
 }
 
-/// As `run_event`, of an event that stays in its list: what a leaf is told is copied for its driver. Where memory is
-/// wanting for that, nothing was told.
-pub fn run_listed<D: Drivers>(
+/// Finishes a runner of runs, at the time of the last event: its root is reset.
+fn finish_runner<D: Drivers>(
     alloc: Global,
     runs: &mut Runs,
-    event: &Event,
+    runner: u8,
     drivers: &mut D,
     block: &mut Block,
 ) -> Result<(), Stop<RunFault>>
-    ghost of: { Setup }
-    requires runs { AreRuns of.tree of.world (D.states drivers.old) runs.old }
-    requires come { CanCome of runs.old.last event.now }
+    requires runs { (of : Setup) × AreRuns of.tree of.world (D.states drivers.old) runs.old × (runner ≤ of.world.runners) }
+    requires first { 1 ≤ runner }
     requires room { HaveRoom (arenas_of runs.old) block.old.notes }
-    ensures { let old = event_side (D.states drivers.old) runs.old block.old in
+    ensures { (of : Setup) → AreRuns of.tree of.world (D.states drivers.old) runs.old → runner ≤ of.world.runners →
+        let old = event_side (D.states drivers.old) runs.old block.old in
         let new = event_side (D.states drivers.new) runs.new block.new in
-        EventLeft of result old new (step of.tree of.world event.now (kept_state of old)) }
+        EventLeft of result old new (finish_step of.tree of.world runner (kept_state of old)) }
 {
-    match copy_event(alloc, event) {
-        Ok(copied) => handle_event(alloc, runs, copied, drivers, block),
-        Err(NoMemory) => cut_off(event, runs, drivers, block),
-    }
+    let turn = Turn {
+        part: Part::Finish,
+        runner,
+        at: runs.last,
+    };
+    run_part::<D, Brand>(alloc, turn, runs, drivers, block)
 }
 
 /// Finishes a runner of runs over any drivers, at the time of the last event: its root is reset.
@@ -338,12 +388,7 @@ pub fn run_finish<D: Drivers>(
         let new = event_side (D.states drivers.new) runs.new block.new in
         EventLeft of result old new (finish_step of.tree of.world runner (kept_state of old)) }
 {
-    let turn = Turn {
-        part: Part::Finish,
-        runner,
-        at: runs.last,
-    };
-    run_part(alloc, turn, runs, drivers, block)
+    finish_runner(alloc, runs, runner, drivers, block)
 }
 
 /// Makes an event of runs: the block then has its header, what happened, and the facts and entries
@@ -392,15 +437,10 @@ pub fn finish(
         let new = event_side (map (λ b. state b) roster.new.items) runs.new block.new in
         EventLeft of result old new (finish_step of.tree of.world runner (kept_state of old)) }
 {
-    let turn = Turn {
-        part: Part::Finish,
-        runner,
-        at: runs.last,
-    };
     let mut held = Roster {
         drivers: mem::replace(roster, Vec::new(alloc)),
     };
-    let ended = run_part(alloc, turn, runs, &mut held, block);
+    let ended = finish_runner(alloc, runs, runner, &mut held, block);
     *roster = held.drivers;
     ended
 }

@@ -1,17 +1,13 @@
 ghost use Rattle.std.specs.Prelude.{◌≡◌, ◌≤◌, ◌<◌, ◌^◌, ◌++◌, ◌∷◌, ℕ, ℤ, List, OnOk, OnErr, Some, length, slice_set};
-ghost use Rattle.spec_run.specs.declared.note.Note.{Note as NoteOf};
-ghost use Rattle.spec_run.specs.declared.note.Note.TheVariants.{Root};
 ghost use Rattle.base_texts.specs.Stops.{UnlessMemory};
-ghost use Rattle.spec_run.specs.Run.{Runner, changed_entries, runner_at, settled};
+ghost use Rattle.spec_run.specs.Run.{changed_entries, settled};
 ghost use Rattle.spec_run.specs.Visit.{change};
 ghost use Rattle.run_arena.specs.Ends.{StaysFit};
 ghost use Rattle.run_arena.specs.Nodes.{kept_at};
-ghost use Rattle.run_arena.specs.Noted.{calls_named};
-ghost use Rattle.run_loop.specs.Parts.{CanAct, CanTake, MeetsPart, PartEnds, StaysArena, acting, scene_of, turn_header, turn_part};
-ghost use Rattle.run_loop.specs.Runs.{RunsFit, arenas_of, nth_board, state_of_runs};
+ghost use Rattle.run_loop.specs.Parts.{CanAct, EndsTick, MeetsPart, StaysArena, acting, scene_of, turn_header};
 ghost use Rattle.spec_run.specs.Served.{Setup};
 
-use crate::runs::{ReadyRunner, Runs};
+use crate::runs::ReadyRunner;
 use crate::telling::tell_entries;
 use base_texts::{NoMemory, Stop};
 use run_arena::{Arena, Block, Kept, Notes, Stage};
@@ -20,9 +16,7 @@ use run_nodes::reset;
 use run_tick::tick;
 use spec_run::{Answer, Header, NodeFault, Note, Status};
 use std::alloc::Global;
-use std::marker::Brand;
-use std::mem;
-use tree_board::{Board, Past, Recorded};
+use tree_board::{Past, Recorded};
 
 /// What a runner does in an event, or at the end of a run.
 #[derive(Clone, Copy, Debug, PartialEq, Eq)]
@@ -92,29 +86,23 @@ fn settle_root(kept: &mut [Kept], notes: &mut Notes) -> Result<(), NoMemory>
     Ok(())
 }
 
-/// Ends a tick: adds the note of the root's answer, and makes a root IDLE that has succeeded or
-/// failed. The error is want of memory, and then the root is unchanged.
+/// Ends a tick whose visit of the root came to this: adds the note of the root's answer, and makes a root IDLE that has
+/// succeeded or failed. The error is that of the visit, or want of memory, and then the root is unchanged.
 fn end_tick(
     runner: u8,
-    answer: Answer,
+    visited: Result<Answer, Stop<NodeFault>>,
     kept: &mut [Kept],
     notes: &mut Notes,
-) -> Result<(), NoMemory>
-    requires { 1 < length kept.old }
-    ensures kept { let root = kept_at kept.old 1 in
-        OnOk result (kept.new ≡ slice_set kept.old 1 (record root { status = settled root.status })) }
-    ensures notes { let root = kept_at kept.old 1 in
-        OnOk result (notes.new.list ≡ notes.old.list ++ Root runner answer ∷ change 1 root.status (settled root.status)) }
-    ensures err { OnErr result (kept.new ≡ kept.old) }
-    ensures err_notes { let root = kept_at kept.old 1 in
-        OnErr result ((told : List NoteOf) × (untold : List NoteOf)
-        × (told ++ untold ≡ Root runner answer ∷ change 1 root.status (settled root.status))
-        × (calls_named told ≡ 0) × (notes.new.list ≡ notes.old.list ++ told)) }
+) -> Result<(), Stop<NodeFault>>
+    requires { OnOk visited (1 < length kept.old) }
+    ensures ends { EndsTick runner visited result kept.old kept.new notes.old.list notes.new.list }
     ensures reserve { notes.new.reserve ≡ notes.old.reserve }
     ensures full { notes.new.full ≡ notes.old.full }
 {
+    let answer = visited?;
     notes.push(Note::Root { runner, answer })?;
-    settle_root(kept, notes)
+    settle_root(kept, notes)?;
+    Ok(())
 }
 
 /// Ends a loan of what nodes keep. The prover follows a slice of a vector through a stage only where
@@ -124,49 +112,6 @@ fn lent_back(kept: &mut [Kept])
     ensures { kept.new ≡ kept.old }
 {
     let _ = kept;
-}
-
-/// Ticks a runner at the time `at` in milliseconds: visits its root, adds the note of its answer,
-/// and makes a root IDLE that has succeeded or failed. The error is the fault of a node, or want of
-/// memory.
-#[inline(never)]
-fn tick_root<D: Drivers, P: Past>(
-    arena: &mut Arena,
-    board: &mut Recorded<P>,
-    facts: &mut FactTable,
-    drivers: &mut D,
-    at: u64,
-    notes: &mut Notes,
-) -> Result<(), Stop<NodeFault>>
-    requires can { (of : Setup) × CanAct of.tree of.world at facts.old (D.states drivers.old) (acting arena.old board.old) }
-    ensures part { (of : Setup) → CanAct of.tree of.world at facts.old (D.states drivers.old) (acting arena.old board.old) →
-        let old = scene_of (acting arena.old board.old) facts.old (D.states drivers.old) in
-        let new = scene_of (acting arena.new board.new) facts.new (D.states drivers.new) in
-        MeetsPart of Part.Tick at result (acting arena.old board.old) old new notes.old.list notes.new.list }
-    ensures fits { let old = scene_of (acting arena.old board.old) facts.old (D.states drivers.old) in
-        let new = scene_of (acting arena.new board.new) facts.new (D.states drivers.new) in
-        StaysFit arena.old.nodes.items old new }
-    ensures stays { StaysArena arena.old arena.new }
-    ensures reserve { notes.old.reserve ≤ notes.new.reserve }
-    ensures full { notes.new.full ≡ notes.old.full }
-{
-    let number = arena.runner;
-    let kept: &mut [Kept] = &mut arena.kept;
-    let mut stage = Stage {
-        alloc: *arena.frames.allocator(),
-        moment: at,
-        nodes: &arena.nodes,
-        kept: &mut *kept,
-        board,
-        facts,
-        drivers,
-        notes,
-    };
-    let visited = tick(&mut stage, &mut arena.frames);
-    lent_back(kept);
-    let answer = visited?;
-    end_tick(number, answer, kept, notes)?;
-    Ok(())
 }
 
 /// Resets a runner's root at the time `at` in milliseconds, which changes no fact. The error is the
@@ -208,9 +153,10 @@ fn reset_root<D: Drivers, P: Past>(
     done
 }
 
-/// Makes the part of a turn of the runner with this arena, over its blackboard. The error is the fault of a node, or want
-/// of memory.
-fn make_part<D: Drivers, P: Past>(
+/// Ticks or resets the runner with this arena, as its turn says, over its blackboard. A visit changes what it is lent as one
+/// value, the stage. The error is the fault of a node, or want of memory.
+#[inline(never)]
+pub fn make_part<D: Drivers, P: Past>(
     turn: Turn,
     arena: &mut Arena,
     board: &mut Recorded<P>,
@@ -230,10 +176,24 @@ fn make_part<D: Drivers, P: Past>(
     ensures reserve { notes.old.reserve ≤ notes.new.reserve }
     ensures full { notes.new.full ≡ notes.old.full }
 {
-    match turn.part {
-        Part::Tick => tick_root(arena, board, facts, drivers, turn.at, notes),
-        Part::Halt | Part::Finish => reset_root(arena, board, facts, drivers, turn.at, notes),
-    }
+    let Part::Tick = turn.part else {
+        return reset_root(arena, board, facts, drivers, turn.at, notes);
+    };
+    let number = arena.runner;
+    let kept: &mut [Kept] = &mut arena.kept;
+    let mut stage = Stage {
+        alloc: *arena.frames.allocator(),
+        moment: turn.at,
+        nodes: &arena.nodes,
+        kept: &mut *kept,
+        board,
+        facts,
+        drivers,
+        notes,
+    };
+    let visited = tick(&mut stage, &mut arena.frames);
+    lent_back(kept);
+    end_tick(number, visited, kept, notes)
 }
 
 /// How a runner's part ended, and whether what it changed on its blackboard was told. The errors are the fault of a node,
@@ -244,72 +204,27 @@ pub struct Acted {
     pub told: Result<(), NoMemory>,
 }
 
-/// Makes a runner's part of a turn, and adds the entries that changed to the block. Where the part was cut off, none are
-/// added.
-fn act<D: Drivers, P: Past>(
+/// Gives a runner its blackboard back after its part, and adds the entries that changed to the block. Where the part was
+/// cut off, none are added.
+pub fn give_back<P: Past>(
     alloc: Global,
-    turn: Turn,
+    ended: Result<(), Stop<NodeFault>>,
+    board: Recorded<P>,
+    number: u8,
     runner: &mut ReadyRunner,
-    facts: &mut FactTable,
-    drivers: &mut D,
     block: &mut Block,
 ) -> Acted
-    requires can { (of : Setup) × CanAct of.tree of.world turn.at facts.old (D.states drivers.old) runner.old }
-    requires past { runner.old.board ≡ P.past }
-    requires few { length runner.old.board < 2 ^ 32 }
-    ensures part { (of : Setup) → CanAct of.tree of.world turn.at facts.old (D.states drivers.old) runner.old →
-        let old = scene_of runner.old facts.old (D.states drivers.old) in
-        let new = scene_of runner.new facts.new (D.states drivers.new) in
-        MeetsPart of turn.part turn.at result.ended runner.old old new block.old.notes.list block.new.notes.list }
-    ensures fits { let old = scene_of runner.old facts.old (D.states drivers.old) in
-        let new = scene_of runner.new facts.new (D.states drivers.new) in
-        StaysFit runner.old.arena.nodes.items old new }
-    ensures stays { StaysArena runner.old.arena runner.new.arena }
-    ensures told { let changes = changed_entries turn.runner 0 P.past runner.new.board in
-        UnlessMemory result.ended (OnOk result.told (block.new.entries.items ≡ block.old.entries.items ++ changes)) }
-    ensures rest { block.new ≡ record block.old { notes = block.new.notes; entries = block.new.entries } }
-    ensures reserve { block.old.notes.reserve ≤ block.new.notes.reserve }
-    ensures full { block.new.notes.full ≡ block.old.notes.full }
+    requires few { length board < 2 ^ 32 }
+    ensures ended { result.ended ≡ ended }
+    ensures runner { runner.new ≡ record runner.old { board = board } }
+    ensures told { let changes = changed_entries number 0 P.past board in
+        UnlessMemory ended (OnOk result.told (block.new.entries.items ≡ block.old.entries.items ++ changes)) }
+    ensures rest { block.new ≡ record block.old { entries = block.new.entries } }
 {
-    let board = mem::replace(&mut runner.board, Board::empty(alloc));
-    let mut board: Recorded<P> = Recorded::of(board);
-    let arena = &mut runner.arena;
-    let notes = &mut block.notes;
-    let ended = make_part(turn, arena, &mut board, facts, drivers, notes);
     let told = match &ended {
         Err(Stop::NoMemory) => Ok(()),
-        _ => tell_entries(alloc, turn.runner, &board, &mut block.entries),
+        _ => tell_entries(alloc, number, &board, &mut block.entries),
     };
     runner.board = board.close();
     Acted { ended, told }
-}
-
-/// Makes the part of a runner of these runs, whose last time is then that of the turn, and adds the entries that changed
-/// to the block.
-pub fn make_part_of<D: Drivers>(
-    alloc: Global,
-    turn: Turn,
-    runs: &mut Runs,
-    drivers: &mut D,
-    block: &mut Block,
-) -> Acted
-    requires { (of : Setup) × CanTake of turn (D.states drivers.old) runs.old }
-    ensures part { (of : Setup) → CanTake of turn (D.states drivers.old) runs.old →
-        let s = state_of_runs of.tree.term (D.states drivers.old) runs.old in
-        (r : Runner) → runner_at s turn.runner ≡ Some r →
-        PartEnds result.ended of.tree.term turn.runner turn.at s (arenas_of runs.old) (D.states drivers.old) (D.states drivers.new)
-        runs.new.runners.items runs.new.facts block.old.notes.list block.new.notes.list (turn_part of turn s r) }
-    ensures fit { (of : Setup) → CanTake of turn (D.states drivers.old) runs.old → RunsFit of (D.states drivers.new) runs.new }
-    ensures kept { runs.new ≡ record runs.old { runners = runs.new.runners; facts = runs.new.facts; last = turn.at } }
-    ensures arenas { arenas_of runs.new ≡ arenas_of runs.old }
-    ensures told { let before = nth_board runs.old.runners.items turn.runner in
-        let changes = changed_entries turn.runner 0 before (nth_board runs.new.runners.items turn.runner) in
-        UnlessMemory result.ended (OnOk result.told (block.new.entries.items ≡ block.old.entries.items ++ changes)) }
-    ensures rest { block.new ≡ record block.old { notes = block.new.notes; entries = block.new.entries } }
-    ensures reserve { block.old.notes.reserve ≤ block.new.notes.reserve }
-    ensures full { block.new.notes.full ≡ block.old.notes.full }
-{
-    runs.last = turn.at;
-    let runner = &mut runs.runners[turn.runner as usize - 1];
-    act::<D, Brand>(alloc, turn, runner, &mut runs.facts, drivers, block)
 }
