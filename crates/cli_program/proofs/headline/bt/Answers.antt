@@ -4,19 +4,19 @@ use Rattle.cli_program.proofs.Ranges.{command_fits}
 use Rattle.cli_program.proofs.headline.bt.Goals as goal
 
 pub returns-clause-whole : goal.returns-clause-whole
-returns-clause-whole g c = rw (← c.replace.ensures.value) (whole_of _ _ _ _ _ _ _ (any_bytes g.S.Shelf.read_gives (g.S.Shelf.holds c.args.shelf.now) _ _ _ _ _ _ _ c.run_words-exit.ensures.reads))
+returns-clause-whole g c = rw (← c.replace.ensures.value) (whole_of _ _ _ _ _ _ _ (any_bytes g.S.Shelf.read_gives (g.S.Shelf.holds c.args.shelf.now) _ _ _ _ _ _ _ c.answer_words-exit.ensures.reads))
 
 pub returns-clause-each : goal.returns-clause-each
-returns-clause-each g c = rw (← c.replace.ensures.value) (each_of _ _ _ _ _ _ (record { element = c.one_element.ensures; fault = c.element_or_fault.ensures.once; not_both = c.element_or_fault.ensures.not_both; world = c.worlds_read_one_way.ensures; expect = c.expectations_read_one_way.ensures; plan = c.plans_run_one_way.ensures }) c.plan_cuts_begin_within.ensures _ (any_bytes g.S.Shelf.read_gives (g.S.Shelf.holds c.args.shelf.now) _ _ _ _ _ _ _ c.run_words-exit.ensures.reads))
+returns-clause-each g c = rw (← c.replace.ensures.value) (each_of _ _ _ _ _ _ (record { element = c.one_element.ensures; fault = c.element_or_fault.ensures.once; not_both = c.element_or_fault.ensures.not_both; world = c.worlds_read_one_way.ensures; expect = c.expectations_read_one_way.ensures; plan = c.plans_run_one_way.ensures }) c.plan_cuts_begin_within.ensures _ (any_bytes g.S.Shelf.read_gives (g.S.Shelf.holds c.args.shelf.now) _ _ _ _ _ _ _ c.answer_words-exit.ensures.reads))
 
 pub returns-clause-begun : goal.returns-clause-begun
-returns-clause-begun g c = rw (← c.replace.ensures.value) (begun_of _ _ _ _ _ _ (record { element = c.one_element.ensures; fault = c.element_or_fault.ensures.once; not_both = c.element_or_fault.ensures.not_both; world = c.worlds_read_one_way.ensures; expect = c.expectations_read_one_way.ensures; plan = c.plans_run_one_way.ensures }) c.plan_cuts_begin_within.ensures _ (any_bytes g.S.Shelf.read_gives (g.S.Shelf.holds c.args.shelf.now) _ _ _ _ _ _ _ c.run_words-exit.ensures.reads))
+returns-clause-begun g c = rw (← c.replace.ensures.value) (begun_of _ _ _ _ _ _ (record { element = c.one_element.ensures; fault = c.element_or_fault.ensures.once; not_both = c.element_or_fault.ensures.not_both; world = c.worlds_read_one_way.ensures; expect = c.expectations_read_one_way.ensures; plan = c.plans_run_one_way.ensures }) c.plan_cuts_begin_within.ensures _ (any_bytes g.S.Shelf.read_gives (g.S.Shelf.holds c.args.shelf.now) _ _ _ _ _ _ _ c.answer_words-exit.ensures.reads))
 
 pub returns-clause-reads : goal.returns-clause-reads
-returns-clause-reads g c = rw (← c.replace.ensures.value) c.run_words-exit.ensures.reads
+returns-clause-reads g c = rw (← c.replace.ensures.value) c.answer_words-exit.ensures.reads
 
 pub returns-clause-roster : goal.returns-clause-roster
-returns-clause-roster g c = rw (← c.replace.ensures.value) c.run_words-exit.ensures.kept.same
+returns-clause-roster g c = rw (← c.replace.ensures.value) c.answer_words-exit.ensures.stays.kept.same
 
 pub returns-clause-planned : goal.returns-clause-planned
 returns-clause-planned g c = rw (← c.replace.ensures.value) (λ read. planned_of _ _ _ (λ _. Unit {0}) _ _ (record { reach = c.plans_reach.ensures; join = c.planned_trees_join.ensures; named = c.steps_are_named_plainly.ensures; short = c.plans_are_short.ensures; read = c.printed_trees_read_back_after_comments.ensures.lone }) _ (command_fits c.args.words.now) read.end read.answered)
