@@ -6,10 +6,11 @@ out = pathlib.Path(sys.argv[1]).resolve(); jobs = int(sys.argv[2]) if len(sys.ar
 lines = [l.split("#")[0].strip() for l in (out/"crates.txt").read_text().split("\n")]
 names = [re.split(r"[ :]", l)[0] for l in lines if l]
 WHOLE = lambda n: n.startswith("spec_") or n == "base_texts"
-os.environ["RT_ALLOW_C"] = ",".join(n for n in names if not WHOLE(n))
+REAL = lambda n: (out/"crates"/n/"real").is_file()
+os.environ["RT_ALLOW_C"] = ",".join(n for n in names if not WHOLE(n) and not REAL(n)) or "none"
 os.chdir(out)
 for n in names:
-    if not WHOLE(n): (out/"crates"/n/"c").mkdir(exist_ok=True)
+    if not WHOLE(n) and not REAL(n): (out/"crates"/n/"c").mkdir(exist_ok=True)
 import rtlib
 G = rtlib.guarded()
 known = {}
@@ -18,7 +19,7 @@ for n in names:
     f = str(out/"crates"/n)
     c = known.get(f) or rtlib.Crate(f, str(out), known)
     known[f] = c
-    c.has_c = not WHOLE(n)
+    c.has_c = not WHOLE(n) and not REAL(n)
     if c.makes_rlib() and not (n.startswith("test_") and n != "test_bed"): crates[n] = c
 def own(c):
     h = hashlib.sha256()
@@ -36,6 +37,10 @@ lock = threading.Condition(); state = {}
 todo = [n for n in crates if not only or n in only or any(n in [b.name for b in crates[o].below()] for o in only if o in crates)]
 def build(n):
     c = crates[n]
+    if REAL(n):
+        over = [d.name for d in c.below() if not REAL(d.name)]
+        if over: return f"FAILED\n{n} is the proved library, but stands on {over}, which is changed: name {n} in stubs.py too"
+        return "kept"
     kept = pathlib.Path(c.folder)/"out/rlib/stub_stamp"
     if kept.is_file() and kept.read_text() == stamp(n) and pathlib.Path(c.rlib).is_dir(): return "kept"
     subprocess.run(["rm", "-rf", os.path.dirname(c.rlib)]); os.makedirs(os.path.dirname(c.rlib))

@@ -46,6 +46,8 @@ def stub(text):
         res += lines[i:j+1] + [body, ind + "}"]; i = k + 1
     return "\n".join(res)
 def copy(name):
+    (out/"crates"/name/"real").unlink(missing_ok=True)
+    if name in only and (out/"crates"/name/"out").is_dir() and not (out/"crates"/name/"c").is_dir(): shutil.rmtree(out/"crates"/name/"out")
     src, to = repo/"crates"/name, out/"crates"/name
     for sub in ("src", "specs", "proofs"):
         old = to/sub
@@ -72,7 +74,8 @@ def copy(name):
         if old.is_dir():
             for d in sorted((d for d in old.rglob("*") if d.is_dir()), reverse=True):
                 if not any(d.iterdir()): d.rmdir()
-names = only or [d.name for d in sorted((repo/"crates").iterdir()) if d.is_dir()]
+names = only
+if not names: sys.exit("name the crates that change, and those between them and what you check")
 (out/"crates").mkdir(parents=True, exist_ok=True)
 for n in names: copy(n)
 t = (repo/"crates.txt").read_text()
