@@ -26,7 +26,7 @@ use Rattle.world_reader.specs.Readings as readings
 use Rattle.host_session.proofs.Files.{when_not}
 use Rattle.host_library.specs.declared.hosted.Hosted.{Hosted}
 use Rattle.host_library.specs.Opening.{Explained, Given, OpensIn, OpensTold, ToldOpens, main_of, refused_as, session_of, told_stop}
-use Rattle.host_values.specs.Texts.{TextTold}
+use Rattle.host_library.specs.Texts.{TextTold}
 
 -- the world of its told rows is joined with the tree
 pub joined_told : (bytes : List ℕ) (tree : Tree) (world : World) (given : Result Sitting (Stop OpenFault)) → MadeOf bytes tree.term (Ok world)

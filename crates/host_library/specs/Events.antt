@@ -14,7 +14,7 @@ use Rattle.spec_world.specs.declared.world.ToldOut.{ToldOut}
 use Rattle.spec_world.specs.declared.world.What.TheVariants.{Tick, Halt, Change, Tell}
 use Rattle.spec_world.specs.Worlds.{is_name}
 use Rattle.host_library.specs.declared.hosted.Hosted.{Hosted}
-use Rattle.host_values.specs.Codes.{code_of, misuse, no_event, no_memory, ok}
+use Rattle.host_library.specs.Codes.{code_of, misuse, no_event, no_memory, ok}
 
 -- an event is made as the definition has it, and C is told by this code how it has ended
 abbrev pub EventTold : Sitting → Event → ℕ → Sitting → Type 0

@@ -1,6 +1,10 @@
+pub mod Codes
 pub mod Events
 pub mod Notes
+pub mod Numbers
 pub mod Opening
 pub mod Owned
 pub mod Reads
+pub mod Texts
 pub mod Traces
+pub mod Values

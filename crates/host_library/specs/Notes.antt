@@ -13,7 +13,7 @@ use Rattle.host_library.specs.declared.notes.EntryTold.{EntryTold}
 use Rattle.host_library.specs.declared.notes.EventTold.{EventTold}
 use Rattle.host_library.specs.declared.notes.FactTold.{FactTold}
 use Rattle.host_library.specs.declared.notes.NoteTold.{NoteTold}
-use Rattle.host_values.specs.Numbers.{answer_number, no_status, status_number}
+use Rattle.host_library.specs.Numbers.{answer_number, no_status, status_number}
 
 abbrev pub port_number : PortId → ℕ
 port_number port.SuccessCount = 1

@@ -22,8 +22,8 @@ use Rattle.spec_tree.specs.declared.term.Tree.{Tree}
 use Rattle.spec_world.specs.declared.world.World.{World}
 use Rattle.spec_world_file.specs.declared.world_fault.WorldFault.{WorldFault}
 use Rattle.host_library.specs.declared.hosted.Hosted.{Hosted}
-use Rattle.host_values.specs.Codes.{misuse, no_memory, ok, refused}
-use Rattle.host_values.specs.Texts.{TextTold}
+use Rattle.host_library.specs.Codes.{misuse, no_memory, ok, refused}
+use Rattle.host_library.specs.Texts.{TextTold}
 
 -- the main tree that is asked for by these bytes; by no bytes none is
 abbrev pub main_of : List ℕ → Option (List ℕ)

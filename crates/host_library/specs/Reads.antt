@@ -17,9 +17,9 @@ use Rattle.spec_world.specs.declared.world.Row.{Row}
 use Rattle.spec_world.specs.declared.world.RowSort.{RowSort}
 use Rattle.spec_world.specs.declared.world.RowSort.TheVariants.{Is, When, Timed, TimedBy, Replay, Gate, Sensed, Told}
 use Rattle.spec_world.specs.Worlds.{outs_told}
-use Rattle.host_values.specs.declared.values.Valued.{Valued}
-use Rattle.host_values.specs.Numbers.{kind_number}
-use Rattle.host_values.specs.Values.{int_told, no_value}
+use Rattle.host_library.specs.declared.values.Valued.{Valued}
+use Rattle.host_library.specs.Numbers.{kind_number}
+use Rattle.host_library.specs.Values.{int_told, no_value}
 
 -- ---- Nodes
 

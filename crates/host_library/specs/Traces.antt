@@ -3,7 +3,7 @@ use Rattle.std.specs.Prelude.{◌⊎◌, ℕ, List, []}
 use Rattle.std.specs.List.{concat}
 use Rattle.spec_output.specs.Lines.{line_names, lines_of}
 use Rattle.spec_session.specs.Sessions.{Sitting}
-use Rattle.host_values.specs.Texts.{TextTold}
+use Rattle.host_library.specs.Texts.{TextTold}
 
 -- the lines of the last event of a session
 abbrev pub trace_of : Sitting → List ℕ

@@ -6,14 +6,15 @@ ghost use Rattle.spec_world.specs.declared.world.Telling.TheVariants.{Success};
 ghost use Rattle.spec_script.specs.declared.value.Value.TheVariants.{Text};
 ghost use Rattle.spec_world.specs.Worlds.{is_name};
 ghost use Rattle.host_session.specs.Reads.{next_moment};
-ghost use Rattle.host_values.specs.Codes.{no_memory, ok};
+ghost use Rattle.host_library.specs.Codes.{no_memory, ok};
 ghost use Rattle.host_library.specs.Events.{Finishes, Forgets, Halts, IntGiven, LeafTold, Nexts, Sets, TellTold, Tells, TextGiven, Ticks, has_place, is_due, text_fits};
 ghost use Rattle.host_library.specs.Owned.{hosted_owns};
 
+use crate::codes::{FAULT, MISUSE, NO_EVENT, NO_MEMORY, OK, code_of};
 use crate::hosted::Hosted;
+use crate::text::is_utf8;
 use base_tables::{MOST_OUTPUTS, MOST_TEXT_BYTES};
 use base_texts::{Items, NoMemory, Txt};
-use host_values::{MISUSE, NO_EVENT, NO_MEMORY, OK, code_of, is_utf8};
 use spec_script::Value;
 use spec_world::{Telling, ToldOut, What};
 use std::alloc::Global;

@@ -6,13 +6,13 @@ ghost use Rattle.spec_world.specs.Worlds.{outs_told};
 ghost use types.Logic.{sem};
 ghost use Rattle.host_library.specs.Owned.{hosted_owns};
 ghost use Rattle.host_library.specs.Reads as reads;
-ghost use Rattle.host_values.specs.Texts.{TextTold};
-ghost use Rattle.host_values.specs.Values as values;
+ghost use Rattle.host_library.specs.Texts.{TextTold};
+ghost use Rattle.host_library.specs.Values as values;
 
 use crate::hosted::Hosted;
 use crate::nodes::{copy_name, runner_of};
+use crate::values::{Valued, copy_value_text, value_told};
 use base_texts::Name;
-use host_values::{Valued, copy_value_text, value_told};
 use spec_script::Value;
 use spec_tree::Kind;
 use spec_world::{Row, RowSort};

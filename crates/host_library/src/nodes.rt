@@ -3,17 +3,16 @@ ghost use Rattle.std.specs.Prelude.{◌≡◌, length};
 ghost use Rattle.std.specs.Option.{option_copied};
 ghost use types.Logic.{sem};
 ghost use Rattle.host_library.specs.Owned.{hosted_owns};
-ghost use Rattle.host_values.specs.Numbers as numbers;
+ghost use Rattle.host_library.specs.Numbers as numbers;
 ghost use Rattle.host_library.specs.Reads as reads;
-ghost use Rattle.host_values.specs.Texts.{TextTold};
-ghost use Rattle.host_values.specs.Values as values;
+ghost use Rattle.host_library.specs.Texts.{TextTold};
+ghost use Rattle.host_library.specs.Values as values;
 
+use crate::codes::{NO_STATUS, kind_number, status_number};
 use crate::hosted::Hosted;
+use crate::text::copy_text;
+use crate::values::{Valued, copy_given_text, copy_value_text, given_told, no_value, value_told};
 use base_texts::Name;
-use host_values::{
-    NO_STATUS, Valued, copy_given_text, copy_text, copy_value_text, given_told, kind_number,
-    no_value, status_number, value_told,
-};
 use spec_run::Status;
 use spec_script::Value;
 use spec_tree::Port;

@@ -5,10 +5,13 @@ ghost use Rattle.host_library.specs.Owned.{hosted_owns};
 ghost use Rattle.host_library.specs.Notes as told;
 ghost use Rattle.host_library.specs.Traces.{LinesTold, trace_of};
 
+use crate::codes::{NO_STATUS, answer_number, status_number};
 use crate::hosted::Hosted;
+use crate::text::copy_text;
 use base_outside::SureSink;
-use host_values::{NO_STATUS, answer_number, copy_text, status_number};
+use base_texts::NoMemory;
 use spec_run::{Cause, Header, Note, PortId};
+use std::alloc::Global;
 use text_lines::{TextStop, names_of, write_block};
 
 /// What is told of a note.

@@ -15,15 +15,16 @@ ghost use Rattle.world_reader.specs.Readings as readings;
 ghost use Rattle.host_library.specs.declared.hosted.Hosted.{Hosted as HostedOf};
 ghost use Rattle.host_library.specs.Opening.{Explained, Given, OpenTold, OpensIn, OpensTold, ToldOpens, given_of, main_of, refused_as, session_of, told_stop};
 ghost use Rattle.host_library.specs.Owned.{given_owns};
-ghost use Rattle.host_values.specs.Texts.{TextTold};
+ghost use Rattle.host_library.specs.Texts.{TextTold};
 
+use crate::codes::{MISUSE, NO_MEMORY, OK, REFUSED};
 use crate::hosted::Hosted;
+use crate::text::{copy_text, is_utf8};
 use base_tables::MOST_FILE_BYTES;
 use base_texts::{Name, NoMemory, Stop};
 use cli_refusals::{Refusal, join_refusal, tree_refusal, world_refusal};
 use cli_serve::told_world;
 use host_session::Session;
-use host_values::{MISUSE, NO_MEMORY, OK, REFUSED, copy_text, is_utf8};
 use spec_session::OpenFault;
 use spec_tree::Tree;
 use spec_world::World;

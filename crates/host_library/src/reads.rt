@@ -7,12 +7,13 @@ ghost use Rattle.spec_session.specs.Labels.{labels};
 ghost use types.Logic.{sem};
 ghost use Rattle.host_library.specs.Owned.{hosted_owns};
 ghost use Rattle.host_library.specs.Reads as reads;
-ghost use Rattle.host_values.specs.Texts.{TextTold};
-ghost use Rattle.host_values.specs.Values as values;
+ghost use Rattle.host_library.specs.Texts.{TextTold};
+ghost use Rattle.host_library.specs.Values as values;
 
 use crate::hosted::Hosted;
 use crate::nodes::runner_of;
-use host_values::{Valued, copy_text, copy_value_text, int_told, no_value, value_told};
+use crate::text::copy_text;
+use crate::values::{Valued, copy_value_text, int_told, no_value, value_told};
 use spec_script::Value;
 use spec_tree::Cell;
 use tree_board::cells;

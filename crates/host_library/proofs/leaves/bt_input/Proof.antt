@@ -2,8 +2,8 @@
 use Rattle.host_library.proofs.Steps.{◌≡◌, ◌<◌, ◌^◌, ◌++◌, w32, w64, vint, ℕ, u32, u64, usize, owned, uint_vals, uint_Tells, uint_Makes, uint_Lawful, [], ◌∷◌, refl, Bor, proved, full_share, emp, sep, id⊢, fst∗, never, Lft, Incl-refl, ftrue, flft, flent, named, vptr, bare, fact, fact_i, tables, sem, ‵, raw, ◌⊛◌, some, later, prop, ◌$◌, ◌∵◌, !, qed, done, move, keep, drop, use0, use1, use2, split, join, fsplit, fjoin, pick, await, regoal, suffices, group, lft_new, lft_end, lent_back, enter, of_opd, addr, stop, no_more, and_then, returns, alloc_all, pass_all, free_all, look_at, get, through, sets, lands_as, yes, Is, shows, lends_shr, lone, part_at, Ptr, RawPtr, block_ptr, null_ptr, in_a_block, rawptr_vals, rawptr_Tells, ShrRef, shr_vals, plain, nothing, heard, peeks, calls_at, lasts, on_entry, triple_of, framed, Stays, walk_of, stay_dropped, Goes-dropped, ends_at}
 use prog.Wp.{WpFn}
 use Rattle.host_library.specs.Reads as reads
-use Rattle.host_values.specs.Values as values
-use Rattle.host_values.specs.declared.values.Valued.{Valued}
+use Rattle.host_library.specs.Values as values
+use Rattle.host_library.specs.declared.values.Valued.{Valued}
 use Rattle.host_library.specs.contracts.values.Valued.{the_row as Told}
 use Rattle.host_library.proofs.values.Valued.TheLaws.{the_row_laws as told_laws}
 use Rattle.host_library.specs.declared.hosted.Hosted.{Hosted}

@@ -3,7 +3,7 @@ use Rattle.host_library.proofs.Steps.{◌≡◌, ◌<◌, ◌^◌, ◌++◌, w32
 use prog.Wp.{WpFn}
 use Rattle.std.specs.Prelude.{slice_get}
 use Rattle.host_library.specs.Reads as reads
-use Rattle.host_values.specs.Texts.{TextTold}
+use Rattle.host_library.specs.Texts.{TextTold}
 use Rattle.host_library.specs.declared.hosted.Hosted.{Hosted}
 use Rattle.host_library.specs.contracts.hosted.Hosted.{the_row as R}
 use Rattle.host_library.proofs.hosted.Hosted.TheLaws.{the_row_laws as hosted_laws, the_within as within}

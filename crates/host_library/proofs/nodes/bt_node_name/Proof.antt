@@ -2,7 +2,7 @@
 use Rattle.host_library.proofs.Steps.{◌≡◌, ◌<◌, ◌^◌, ◌++◌, w32, w64, vint, ℕ, List, length, u8, u32, usize, owned, owns, uint_vals, uint_Tells, uint_Makes, uint_Lawful, [], ◌∷◌, refl, Bor, MutBor, proved, full_share, emp, sep, id⊢, fst∗, never, Lft, Incl-refl, ftrue, flft, flent, named, vptr, bare, fact, fact_i, tables, sem, ‵, raw, ◌⊛◌, some, later, prop, ◌$◌, ◌∵◌, !, qed, move, keep, drop, use0, use1, use2, split, join, fsplit, fjoin, feq_l, pick, await, regoal, suffices, group, done, lft_new, lft_end, lent_back, enter, of_opd, addr, stop, from, fld, hop, agg, sub, whole, get_in, look_in_at, no_more, and_then, returns, alloc_all, pass_all, free_all, look_at, get, through, sets, lands_as, yes, Is, shows, lends_shr, lone, part_at, Ptr, RawPtr, block_ptr, null_ptr, in_a_block, rawptr_vals, rawptr_Tells, ShrRef, shr_vals, MutSlice, mut_slice_vals, mut_slice_Tells, plain, nothing, heard, peeks, calls_at, lasts, triple_of, framed, Stays, walk_of, stay_dropped, gave_slice, Goes-dropped, Goes-gave_slice, ends_at}
 use prog.Wp.{WpFn}
 use Rattle.host_library.specs.Reads as reads
-use Rattle.host_values.specs.Texts.{TextTold}
+use Rattle.host_library.specs.Texts.{TextTold}
 use Rattle.host_library.specs.declared.hosted.Hosted.{Hosted}
 use Rattle.host_library.specs.contracts.hosted.Hosted.{the_row as R}
 use Rattle.host_library.proofs.hosted.Hosted.TheLaws.{the_row_laws as hosted_laws, the_within as within}

@@ -4,7 +4,7 @@ use prog.Wp.{WpFn}
 use Rattle.std.specs.Prelude.{slice_get}
 use Rattle.base_tables.specs.SlotTables.{slot_table}
 use Rattle.host_library.specs.Reads as reads
-use Rattle.host_values.specs.Texts.{TextTold}
+use Rattle.host_library.specs.Texts.{TextTold}
 use Rattle.host_library.specs.declared.hosted.Hosted.{Hosted}
 use Rattle.host_library.specs.contracts.hosted.Hosted.{the_row as R}
 use Rattle.host_library.proofs.hosted.Hosted.TheLaws.{the_row_laws as hosted_laws, the_within as within}

@@ -3,7 +3,7 @@ use Rattle.host_library.proofs.Steps.{◌≡◌, ◌<◌, ◌^◌, ◌++◌, w32
 use prog.Wp.{WpFn}
 use Rattle.std.specs.Prelude.{slice_get}
 use Rattle.host_library.specs.Reads as reads
-use Rattle.host_values.specs.declared.values.Valued.{Valued}
+use Rattle.host_library.specs.declared.values.Valued.{Valued}
 use Rattle.host_library.specs.contracts.values.Valued.{the_row as Told}
 use Rattle.host_library.proofs.values.Valued.TheLaws.{the_row_laws as told_laws}
 use Rattle.host_library.specs.declared.hosted.Hosted.{Hosted}

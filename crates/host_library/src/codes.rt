@@ -1,7 +1,7 @@
 //! What C is told by numbers, which include/bt.h names.
 ghost use Rattle.std.specs.Prelude.{◌≡◌};
-ghost use Rattle.host_values.specs.Codes as codes;
-ghost use Rattle.host_values.specs.Numbers as numbers;
+ghost use Rattle.host_library.specs.Codes as codes;
+ghost use Rattle.host_library.specs.Numbers as numbers;
 
 use spec_run::{Answer, Status};
 use spec_session::Ended;

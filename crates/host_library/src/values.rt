@@ -1,8 +1,8 @@
 //! Values of blackboard entries, ports and facts.
 ghost use Rattle.std.specs.Prelude.{◌≡◌, Some};
 ghost use Rattle.std.specs.Option.{option_copied};
-ghost use Rattle.host_values.specs.Texts.{TextTold};
-ghost use Rattle.host_values.specs.Values as values;
+ghost use Rattle.host_library.specs.Texts.{TextTold};
+ghost use Rattle.host_library.specs.Values as values;
 
 use crate::text::copy_text;
 use spec_script::Value;

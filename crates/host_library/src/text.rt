@@ -1,7 +1,7 @@
 //! Texts, which are copied into room that C gives.
 ghost use Rattle.std.specs.Prelude.{◌≡◌, IsTrue, IsUtf8};
 ghost use Rattle.std.specs.Str.{is_utf8};
-ghost use Rattle.host_values.specs.Texts.{TextTold};
+ghost use Rattle.host_library.specs.Texts.{TextTold};
 
 /// Copies the front of a text into a room, as much as has place, and gives the length of the whole text.
 pub fn copy_text(text: &[u8], room: &mut [u8]) -> usize

@@ -1,5 +1,5 @@
-use Rattle.host_values.proofs.Utf8s.{is_not, is_so}
-use Rattle.host_values.proofs.text.is_utf8.Goals as goal
+use Rattle.host_library.proofs.Utf8s.{is_not, is_so}
+use Rattle.host_library.proofs.text.is_utf8.Goals as goal
 
 pub returns-in-Ok-clause-test : goal.returns-in-Ok-clause-test
 returns-in-Ok-clause-test c = is_so c.args.bytes.now c.in-Ok.ensures.cases.1

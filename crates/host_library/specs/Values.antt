@@ -4,7 +4,7 @@ use Rattle.spec_script.specs.declared.value.Value.{Value}
 use Rattle.spec_script.specs.declared.value.Value.TheVariants.{Int, Text}
 use Rattle.spec_tree.specs.declared.term.PortValue.{PortValue}
 use Rattle.spec_tree.specs.declared.term.PortValue.TheVariants.{Lit, Key}
-use Rattle.host_values.specs.declared.values.Valued.{Valued}
+use Rattle.host_library.specs.declared.values.Valued.{Valued}
 
 abbrev pub no_value : Valued
 no_value = record { kind = 0; length = 0; number = pos 0 }

@@ -1,4 +1,0 @@
-pub mod Codes
-pub mod Numbers
-pub mod Texts
-pub mod Values
