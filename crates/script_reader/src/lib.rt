@@ -6,6 +6,7 @@ mod check;
 mod identifier;
 pub mod laws;
 mod lexer;
+mod naming;
 mod reader;
 
 pub use identifier::{is_identifier, is_identifier_start, is_white};

@@ -7,8 +7,9 @@ ghost use Rattle.spec_script.specs.Spots.{refused};
 use crate::build::{alone, statements};
 use crate::check::check;
 use crate::lexer::read;
-use base_texts::{Items, Stop, Txt};
-use spec_script::{Expr, Opened, Script, ScriptFault, Stage, Verdict};
+use crate::naming::names_in;
+use base_texts::{Stop, Txt};
+use spec_script::{Expr, Opened, Script, ScriptFault, Stage, Statements, Verdict};
 use std::alloc::Global;
 
 /// The greatest length of a script, in bytes.
@@ -42,8 +43,10 @@ pub fn parse_script(alloc: Global, text: &[u8]) -> Result<Script, Stop<ScriptFau
     match refusal(verdict, lexed.fault, text.len() as u32) {
         Some(fault) => Err(Stop::Fault(fault)),
         None => {
-            let stmts = Items::of(statements(alloc, lexed.tokens.as_slice())?);
+            let stmts = statements(alloc, lexed.tokens.as_slice())?;
+            let (names, named) = names_in(alloc, stmts.as_slice())?;
             let text = Txt::of(Vec::from_slice(alloc, text)?)?;
+            let stmts = Statements::of(stmts, names, named);
             Ok(Script { text, stmts })
         }
     }

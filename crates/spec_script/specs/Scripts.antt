@@ -1,5 +1,7 @@
 -- What stands in expressions and statements: names, text literals, and what the reader grants of them.
-use Rattle.std.specs.Prelude.{ℕ, ◌+◌, List, [], ◌∷◌, ◌++◌}
+use Rattle.std.specs.Prelude.{ℕ, ◌+◌, List, [], ◌∷◌, ◌++◌, fold, if◌then◌else◌}
+use Rattle.std.specs.List.{flat_map, list_any}
+use Rattle.std.specs.Str.{bytes_eq}
 use Rattle.spec_script.specs.declared.syntax.Expr.{Expr, fold-Expr}
 use Rattle.spec_script.specs.declared.syntax.Expr.TheOpen.{Expr-F, Num, Lit, Look, Group, Unary, Binary, Choose}
 use Rattle.spec_script.specs.declared.syntax.Stmt.{Stmt}
@@ -25,6 +27,14 @@ stmt_names (Create name e) = name ∷ names_of e
 stmt_names (Assign name e) = name ∷ names_of e
 stmt_names (Change op name e) = name ∷ names_of e
 stmt_names (Plain e) = names_of e
+
+-- names, with one more where it is not yet among them
+abbrev pub with_name : List (List ℕ) → List ℕ → List (List ℕ)
+with_name names name = if list_any (bytes_eq name) names then names else names ++ name ∷ []
+
+-- the names of statements, each once, in the order in which they first stand there
+abbrev pub distinct_names : List Stmt → List (List ℕ)
+distinct_names stmts = fold with_name [] (flat_map stmt_names stmts)
 
 -- how many text literals stand in an expression, where it is known of its parts
 abbrev pub texts_step : Expr-F ℕ → ℕ

@@ -5,6 +5,7 @@
 mod cells;
 mod fault;
 mod stage;
+mod statements;
 mod syntax;
 mod token;
 mod value;
@@ -12,6 +13,7 @@ mod value;
 pub use cells::{Cells, Looks, Seen};
 pub use fault::{ExecFault, ScriptFault};
 pub use stage::{Opened, Stage, Verdict};
+pub use statements::Statements;
 pub use syntax::{BinOp, Cmp, Expr, Script, Stmt, UnOp};
 pub use token::{Placed, Token};
 pub use value::Value;

@@ -1,4 +1,5 @@
-use base_texts::{Boxed, Items, Name, Txt};
+use crate::statements::Statements;
+use base_texts::{Boxed, Name, Txt};
 
 /// A comparison of two numbers, or of two texts byte by byte.
 #[derive(Clone, Copy, Debug, PartialEq, Eq)]
@@ -87,5 +88,5 @@ pub enum Stmt {
 #[derive(Debug, Drop)]
 pub struct Script {
     pub text: Txt,
-    pub stmts: Items<Stmt>,
+    pub stmts: Statements,
 }

@@ -61,7 +61,7 @@ swap_firsts true true c = refl
 swap_firsts true false c = refl
 swap_firsts false b c = refl
 
-placed_any : (p : Cell → Bool) (cell : Cell) (cells : List Cell) → list_any p (placed cell cells) ≡ p cell || list_any p cells
+pub placed_any : (p : Cell → Bool) (cell : Cell) (cells : List Cell) → list_any p (placed cell cells) ≡ p cell || list_any p cells
 placed_any p cell [] = refl
 placed_any p cell (first ∷ rest) =
     elim (cell_order cell first) as (λ o. cell_order cell first ≡ o → list_any p (placed_by o cell first rest (placed cell rest)) ≡ p cell || list_any p (first ∷ rest)) [

@@ -1,4 +1,5 @@
 pub mod CellOrder
+pub mod Counted
 pub mod NameCounts
 pub mod Firsts
 pub mod Named

@@ -1,6 +1,6 @@
 -- Keys of a scope, each once, and what they name there.
 use Rattle.std.proofs.Common.{◌≡◌, ℕ, List, [], ◌∷◌, ◌++◌, Bool, true, false, ◌||◌, cond, map, append_assoc, append-nil, refl, sym, ap, ◌∙◌, arith}
-use Rattle.std.proofs.lemmas.Grind.{common_steps}
+use Rattle.std.proofs.lemmas.Grind.{common_steps, fold-append}
 use Rattle.std.proofs.lemmas.List.Folds.{list_any-append, list_any_at}
 use Rattle.std.proofs.lemmas.Slice.Eq.{bytes_eq-Decides}
 use Rattle.std.specs.List.{list_any}
@@ -32,7 +32,11 @@ or_false : (a : Bool) → a ≡ a || false
 or_false true = refl
 or_false false = refl
 
-or_assoc : (a b c : Bool) → (a || b) || c ≡ a || (b || c)
+or_true : (a : Bool) → a || true ≡ true
+or_true true = refl
+or_true false = refl
+
+pub or_assoc : (a b c : Bool) → (a || b) || c ≡ a || (b || c)
 or_assoc true b c = refl
 or_assoc false b c = refl
 
@@ -69,12 +73,32 @@ any_inserted p keys key =
       | false ↦ λ _. list_any-append p keys (key ∷ []) ∙ ap (λ b. list_any p keys || b) (sym (or_false (p key)))
     ] refl
 
-any_of_all : (p : List ℕ → Bool) (keys names : List (List ℕ)) → list_any p (insert_all bytes_eq keys names) ≡ list_any p keys || list_any p names
+pub any_of_all : (p : List ℕ → Bool) (keys names : List (List ℕ)) → list_any p (insert_all bytes_eq keys names) ≡ list_any p keys || list_any p names
 any_of_all p keys [] = or_false (list_any p keys)
 any_of_all p keys (name ∷ names) =
     any_of_all p (insert_key bytes_eq keys name) names
     ∙ ap (λ b. b || list_any p names) (any_inserted p keys name)
     ∙ or_assoc (list_any p keys) (p name) (list_any p names)
+
+-- a name goes to keys that were inserted one after the other as the last of them
+inserted_last : (keys names : List (List ℕ)) (name : List ℕ)
+    → insert_all bytes_eq keys (insert_key bytes_eq names name) ≡ insert_key bytes_eq (insert_all bytes_eq keys names) name
+inserted_last keys names name =
+    let all = insert_all bytes_eq keys names in
+    elim (list_any (bytes_eq name) names) as (λ b. list_any (bytes_eq name) names ≡ b
+    → insert_all bytes_eq keys (cond b names (names ++ name ∷ [])) ≡ insert_key bytes_eq all name) [
+      | true ↦ λ held.
+          let there = any_of_all (bytes_eq name) keys names ∙ ap (λ b. list_any (bytes_eq name) keys || b) held ∙ or_true (list_any (bytes_eq name) keys) in
+          sym (ap (λ b. cond b all (all ++ name ∷ [])) there)
+      | false ↦ λ _. fold-append (insert_key bytes_eq) keys names (name ∷ [])
+    ] refl
+
+-- keys to which names go, each once, become those to which they go again and again
+pub inserted_once : (keys held names : List (List ℕ))
+    → insert_all bytes_eq keys (insert_all bytes_eq held names) ≡ insert_all bytes_eq (insert_all bytes_eq keys held) names
+inserted_once keys held [] = refl
+inserted_once keys held (name ∷ names) =
+    inserted_once keys (insert_key bytes_eq held name) names ∙ ap (λ ks. insert_all bytes_eq ks names) (inserted_last keys held name)
 
 -- keys, each once, name what they name when they are told again and again
 pub named_once : (number : ℕ) (scope : model.Scope) (before names now : List (List ℕ)) → now ≡ insert_all bytes_eq before names
@@ -91,18 +115,18 @@ named_once number scope before names now is p =
 
 -- ---- what has been named so far
 
-pub same_from : (xs ys : List Naming) → xs ≡ ys → HaveSame xs ys
+pub same_from : {X : Type 0} (xs ys : List X) → xs ≡ ys → HaveSame xs ys
 same_from xs ys is p = ap (list_any p) is
 
-pub then_same : (xs ys zs : List Naming) → HaveSame xs ys → HaveSame ys zs → HaveSame xs zs
+pub then_same : {X : Type 0} (xs ys zs : List X) → HaveSame xs ys → HaveSame ys zs → HaveSame xs zs
 then_same xs ys zs f g p = f p ∙ g p
 
-pub both_same : (xs xs' ys ys' : List Naming) → HaveSame xs xs' → HaveSame ys ys' → HaveSame (xs ++ ys) (xs' ++ ys')
+pub both_same : {X : Type 0} (xs xs' ys ys' : List X) → HaveSame xs xs' → HaveSame ys ys' → HaveSame (xs ++ ys) (xs' ++ ys')
 both_same xs xs' ys ys' f g p =
     list_any-append p xs ys ∙ ap (λ b. b || list_any p ys) (f p) ∙ ap (λ b. list_any p xs' || b) (g p) ∙ sym (list_any-append p xs' ys')
 
 -- what a node that makes no scope names, and then its children
-pub other_named : (namings keys keys' own rest now whole : List Naming) → HaveSame keys' (keys ++ own)
+pub other_named : {X : Type 0} (namings keys keys' own rest now whole : List X) → HaveSame keys' (keys ++ own)
     → HaveSame now ((namings ++ keys') ++ rest) → whole ≡ own ++ rest → HaveSame now ((namings ++ keys) ++ whole)
 other_named namings keys keys' own rest now whole node children is p =
     let n = list_any p namings in
@@ -135,13 +159,13 @@ subtree_named namings keys keys' own inner ports rest left whole node given chil
     ∙ ap (λ b. (n || k) || b) (ap (list_any p) is ∙ list_any-append p (own ++ ports) rest ∙ ap (λ b. b || list_any p rest) (list_any-append p own ports) ∙ or_assoc a (list_any p ports) (list_any p rest)))
 
 -- one more of some terms, of which the others are still to come
-pub next_named : (now then first rest whole of_all : List Naming) → HaveSame now (then ++ first) → whole ≡ first ++ rest → HaveSame (then ++ whole) of_all → HaveSame (now ++ rest) of_all
-next_named now then first rest whole of_all step is so_far =
+pub next_named : {X : Type 0} (now then first rest whole of_all : List X) → HaveSame now (then ++ first) → whole ≡ first ++ rest → HaveSame (then ++ whole) of_all → HaveSame (now ++ rest) of_all
+next_named {X} now then first rest whole of_all step is so_far =
     then_same _ _ _ (both_same now (then ++ first) rest rest step (λ p. refl))
-    (then_same _ (then ++ whole) _ (same_from _ _ (append_assoc then first rest ∙ ap (λ (ns : List Naming). then ++ ns) (sym is))) so_far)
+    (then_same _ (then ++ whole) _ (same_from _ _ (append_assoc then first rest ∙ ap (λ (ns : List X). then ++ ns) (sym is))) so_far)
 
 -- nothing is left of some terms
-pub none_left : (now then : List Naming) → HaveSame (now ++ []) then → HaveSame now then
+pub none_left : {X : Type 0} (now then : List X) → HaveSame (now ++ []) then → HaveSame now then
 none_left now then so_far = then_same _ (now ++ []) _ (same_from _ _ (sym (append-nil now))) so_far
 
 -- what has been named from nothing on

@@ -1,3 +1,4 @@
+pub mod Countings
 pub mod Namings
 pub mod Openings
 pub mod Records

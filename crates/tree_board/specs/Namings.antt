@@ -33,9 +33,9 @@ namings_of_term term uid number scope = flat_map namings_at (standing_from term 
 abbrev pub namings_of_terms : List Term → ℕ → ℕ → model.Scope → List Naming
 namings_of_terms terms uid number scope = flat_map namings_at (standing_all (map standing_from terms) uid number scope)
 
--- two lists have the same namings: a test holds of one in the first exactly where it holds of one in the second
-abbrev pub HaveSame : List Naming → List Naming → Type 0
-HaveSame xs ys = (p : Naming → Bool) → list_any p xs ≡ list_any p ys
+-- two lists have the same items: a test holds of one in the first exactly where it holds of one in the second
+abbrev pub HaveSame : {X : Type 0} → List X → List X → Type 0
+HaveSame {X} xs ys = (p : X → Bool) → list_any p xs ≡ list_any p ys
 
 -- these namings, and these keys of a scope that is not yet left
 abbrev pub named_so_far : Scope → List (List ℕ) → List Naming → List Naming

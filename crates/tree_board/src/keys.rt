@@ -50,6 +50,13 @@ impl Keys {
         self.set.as_slice()
     }
 
+    /// Whether a key is among them.
+    pub(crate) fn holds(&self, key: &Name) -> bool
+        ensures { result ≡ list_any (bytes_eq key.now) self.now }
+    {
+        self.set.contains(key)
+    }
+
     /// Adds a key, where it is not yet among them.
     pub(crate) fn name(&mut self, alloc: Global, key: &Name) -> Result<(), NoMemory>
         ensures { OnOk result (self.new ≡ insert_key bytes_eq self.old key.now) }

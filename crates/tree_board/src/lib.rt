@@ -4,6 +4,7 @@
 #![tactic(auto)]
 
 mod board;
+mod counting;
 mod keys;
 mod limit;
 mod naming;

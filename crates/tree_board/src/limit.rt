@@ -1,60 +1,24 @@
 ghost use Rattle.std.specs.Prelude.{◌≡◌, ◌+◌, ◌≤◌, IfOk, IfSome, length, nat_le};
 ghost use Rattle.std.specs.List.{flat_map};
-ghost use Rattle.spec_script.specs.Scripts.{names_of, stmt_names};
 ghost use Rattle.spec_tree.specs.declared.term.Term.{out-Term};
 ghost use Rattle.spec_tree.specs.Boards.{given, scripts_of, slots, value_keys};
 ghost use Rattle.tree_board.specs.Namings.{name_count, own_name_count, script_names};
 
-use crate::slots::{slot_count, slots_of};
+use crate::counting::has_few_cells;
 use base_texts::{NoMemory, Shared};
-use spec_script::{Expr, Script, Stmt};
+use spec_script::Script;
 use spec_tree::{Guards, Kind, Port, PortValue, Term, Tree};
 use std::alloc::Global;
 
-/// Counts down from `left` by the names in an expression. None where it has more than `left`; so in all
+/// Counts down from `left` by the names of a script, where there is one. None where it has more than `left`; so in all
 /// functions here.
-fn left_by_expr(e: &Expr, left: usize) -> Option<usize>
-    ensures { IfSome result (λ rest. length (names_of e.now) + rest ≤ left) }
-{
-    match e {
-        Expr::Num(_) | Expr::Lit(_) => Some(left),
-        Expr::Look(_) => left.checked_sub(1),
-        Expr::Group(a) | Expr::Unary(_, a) => left_by_expr(a.get(), left),
-        Expr::Binary(_, a, b) => {
-            let left = left_by_expr(a.get(), left)?;
-            left_by_expr(b.get(), left)
-        }
-        Expr::Choose(a, b, c) => {
-            let left = left_by_expr(a.get(), left)?;
-            let left = left_by_expr(b.get(), left)?;
-            left_by_expr(c.get(), left)
-        }
-    }
-}
-
-/// Counts down by the names of a statement.
-fn left_by_stmt(stmt: &Stmt, left: usize) -> Option<usize>
-    ensures { IfSome result (λ rest. length (stmt_names stmt.now) + rest ≤ left) }
-{
-    match stmt {
-        Stmt::Create(_, e) | Stmt::Assign(_, e) | Stmt::Change(_, _, e) => {
-            left_by_expr(e, left.checked_sub(1)?)
-        }
-        Stmt::Plain(e) => left_by_expr(e, left),
-    }
-}
-
-/// Counts down by the names of a script, where there is one.
 fn left_by_script(script: &Option<Shared<Script>>, left: usize) -> Option<usize>
     ensures { IfSome result (λ rest. length (script_names (given script.now)) + rest ≤ left) }
 {
-    let mut rest = left;
-    if let Some(script) = script {
-        for stmt in script.get().stmts.list() {
-            rest = left_by_stmt(stmt, rest)?;
-        }
+    match script {
+        Some(script) => left.checked_sub(script.get().stmts.named()),
+        None => Some(left),
     }
-    Some(rest)
 }
 
 /// Counts down by the names of the code and the guards of a node.
@@ -115,6 +79,5 @@ pub fn is_within_slots(alloc: Global, tree: &Tree, most: u32) -> Result<bool, No
     if left_by_term(&tree.term, most as usize).is_some() {
         return Ok(true);
     }
-    let slots = slots_of(alloc, tree)?;
-    Ok(slot_count(&slots) <= most)
+    has_few_cells(alloc, tree, most)
 }

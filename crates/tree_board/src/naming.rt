@@ -2,7 +2,6 @@ ghost use Rattle.std.specs.Prelude.{◌≡◌, ◌+◌, ◌++◌, map, sum, IfOk
 ghost use Rattle.std.specs.List.{flat_map};
 ghost use Rattle.std.specs.Str.{bytes_eq};
 ghost use Rattle.indexmap.specs.IndexSet.{insert_all};
-ghost use Rattle.spec_script.specs.Scripts.{names_of, stmt_names};
 ghost use Rattle.spec_tree.specs.declared.term.Kind.TheVariants.{SubTree};
 ghost use Rattle.spec_tree.specs.declared.term.Term.{out-Term};
 ghost use Rattle.spec_tree.specs.Boards.{given, scripts_of, value_keys, namings};
@@ -13,42 +12,9 @@ use crate::keys::Keys;
 use crate::rows::Namings;
 use crate::scope::{Scope, cell_in, mappings_of, scope_number};
 use base_texts::{NoMemory, Shared};
-use spec_script::{Expr, Script, Stmt};
+use spec_script::Script;
 use spec_tree::{Guards, Kind, Port, PortValue, Term, Tree};
 use std::alloc::Global;
-
-/// Adds the names that an expression looks at.
-fn name_expr(alloc: Global, e: &Expr, keys: &mut Keys) -> Result<(), NoMemory>
-    ensures { OnOk result (keys.new ≡ insert_all bytes_eq keys.old (names_of e.now)) }
-{
-    match e {
-        Expr::Num(_) | Expr::Lit(_) => Ok(()),
-        Expr::Look(name) => keys.name(alloc, name),
-        Expr::Group(a) | Expr::Unary(_, a) => name_expr(alloc, a.get(), keys),
-        Expr::Binary(_, a, b) => {
-            name_expr(alloc, a.get(), keys)?;
-            name_expr(alloc, b.get(), keys)
-        }
-        Expr::Choose(a, b, c) => {
-            name_expr(alloc, a.get(), keys)?;
-            name_expr(alloc, b.get(), keys)?;
-            name_expr(alloc, c.get(), keys)
-        }
-    }
-}
-
-/// Adds the names of a statement.
-fn name_stmt(alloc: Global, stmt: &Stmt, keys: &mut Keys) -> Result<(), NoMemory>
-    ensures { OnOk result (keys.new ≡ insert_all bytes_eq keys.old (stmt_names stmt.now)) }
-{
-    match stmt {
-        Stmt::Create(name, e) | Stmt::Assign(name, e) | Stmt::Change(_, name, e) => {
-            keys.name(alloc, name)?;
-            name_expr(alloc, e, keys)
-        }
-        Stmt::Plain(e) => name_expr(alloc, e, keys),
-    }
-}
 
 /// Adds the names of a script, where there is one.
 fn name_script(
@@ -59,8 +25,8 @@ fn name_script(
     ensures { OnOk result (keys.new ≡ insert_all bytes_eq keys.old (script_names (given script.now))) }
 {
     if let Some(script) = script {
-        for stmt in script.get().stmts.list() {
-            name_stmt(alloc, stmt, keys)?;
+        for name in script.get().stmts.names() {
+            keys.name(alloc, name)?;
         }
     }
     Ok(())
@@ -109,7 +75,7 @@ fn name_ports(alloc: Global, ports: &[Port], keys: &mut Keys) -> Result<(), NoMe
 }
 
 /// Adds what a node names in the scope in which it stands.
-fn name_node(alloc: Global, node: &Term, keys: &mut Keys) -> Result<(), NoMemory>
+pub(crate) fn name_node(alloc: Global, node: &Term, keys: &mut Keys) -> Result<(), NoMemory>
     ensures { OnOk result (keys.new ≡ insert_all bytes_eq keys.old (keys_of_node node.now)) }
 {
     name_scripts(alloc, &node.code, &node.guards, keys)?;

@@ -29,14 +29,14 @@ pub(crate) struct Mappings {
 }
 
 /// Whether a key begins with `_`.
-fn begins_private(key: &Name) -> bool
+pub(crate) fn begins_private(key: &Name) -> bool
     ensures { result ≡ is_private key.now }
 {
     key.list().first() == Some(&b'_')
 }
 
 /// The cell of the key in a scope that owns it.
-fn owned(alloc: Global, scope: u32, key: &Name) -> Result<Cell, NoMemory>
+pub(crate) fn owned(alloc: Global, scope: u32, key: &Name) -> Result<Cell, NoMemory>
     ensures { IfOk result (λ cell. cell ≡ owner scope key.now) }
 {
     let key = key.copy(alloc)?;
