@@ -1,3 +1,5 @@
 pub mod Ends
+pub mod Grams
+pub mod Marks
 pub mod Pieces
 pub mod Stars

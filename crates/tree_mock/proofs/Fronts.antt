@@ -1,9 +1,9 @@
 -- How patterns begin: which are passed over where a path goes on otherwise than the one before.
 use Rattle.std.proofs.Common.{◌≡◌, ◌≢◌, ◌<◌, ◌≤◌, ℕ, suc, zero, ◌+◌, List, [], ◌∷◌, ◌++◌, Bool, true, false, cond, nat_eq, length, take, drop, get_or, Some, None, refl, ap, ap₂, sym, ◌∙◌, subst, append_assoc, append-nil, arith}
 use Rattle.std.proofs.lemmas.Bool.Decides.{nat_tests}
-use Rattle.std.proofs.lemmas.List.{drop_more, take-append-drop}
+use Rattle.std.proofs.lemmas.List.{drop_more, length-take-le, take-append-drop}
 use Rattle.std.proofs.lemmas.List.Folds.{length-prefix_len}
-use Rattle.std.proofs.lemmas.List.Sums.{common_prefix_len-le}
+use Rattle.std.proofs.lemmas.List.Sums.{common_prefix_len-le, prefix_len-le-length}
 use Rattle.std.specs.Prelude.{if◌then◌else◌, not}
 use Rattle.std.proofs.lemmas.Slice.Eq.{bytes_eq-Decides}
 use Rattle.std.specs.Str.{bytes_eq}
@@ -11,6 +11,8 @@ use Rattle.std.specs.List.{common_prefix_len}
 use Rattle.spec_tree_file.specs.Patterns.{is_star, matches}
 use Rattle.spec_tree_file.specs.Substitutions.{rule_of}
 use Rattle.spec_tree_file.specs.declared.mock_rules.Rule.{Rule}
+use Rattle.tree_mock.specs.Ends.{IsEnd}
+use Rattle.tree_mock.specs.Grams.{IsGram}
 use Rattle.tree_mock.specs.Lookup.{AreFronts, IsFront}
 use Rattle.tree_mock.specs.Patterns.{before_star, front}
 use Rattle.tree_mock.specs.declared.lookup.Front.{Front}
@@ -185,6 +187,31 @@ module _ (all : List Rule) (path : List ℕ) (f : Front) (fronts : List Front) w
       let counted : f.plain ≡ before_star pattern = counts old l in
       let is : alike (front pattern) path ≡ before_star pattern = sym (k ∙ ap (λ (n : ℕ). alike (take n pattern) path) counted) ∙ same ∙ counted in
       ap₂ (λ (n m : ℕ). matches (drop n pattern) (drop m path)) counted (same ∙ counted) ∙ decided pattern path is
+
+  -- what is kept of how the pattern ends
+  ending : (before : List ℕ) (rules : List Rule) → AreFronts before rules (f ∷ fronts) → IsEnd f.rule.now.pattern f.end
+  ending before [] fit = absurd fit
+  ending before (rule ∷ rules) fit = subst (λ (r : Rule). IsEnd r.pattern f.end) (sym fit.0.same) fit.0.end
+
+  pub ends_with : (known : ℕ) → Left all path known (f ∷ fronts) → IsEnd f.rule.now.pattern f.end
+  ends_with known l = ending l.before l.rules l.fit
+
+  -- and of what stands in it
+  standing : (before : List ℕ) (rules : List Rule) → AreFronts before rules (f ∷ fronts) → IsGram f.rule.now.pattern f.gram
+  standing before [] fit = absurd fit
+  standing before (rule ∷ rules) fit = subst (λ (r : Rule). IsGram r.pattern f.gram) (sym fit.0.same) fit.0.gram
+
+  pub stands : (known : ℕ) → Left all path known (f ∷ fronts) → IsGram f.rule.now.pattern f.gram
+  stands known l = standing l.before l.rules l.fit
+
+  -- the front is no longer than the pattern, and shares no more bytes than it has
+  pub fits : (known : ℕ) → Left all path known (f ∷ fronts) → f.plain ≤ length f.rule.now.pattern
+  fits known l = omega (arith, counts known l, prefix_len-le-length (λ byte. not (is_star byte)) f.rule.now.pattern)
+
+  pub shares : (known : ℕ) → Left all path known (f ∷ fronts) → f.shared ≤ known → f.shared ≤ f.plain
+  shares known l few =
+      let front_len : length (take f.plain f.rule.now.pattern) ≡ f.plain = length-take-le f.plain f.rule.now.pattern (fits known l) in
+      omega (arith, (goes_on known l few).0, front_len)
 
   pub begins_so : (old : ℕ) → Left all path old (f ∷ fronts) → before_star (drop f.plain f.rule.now.pattern) ≡ 0
   begins_so old l = ap (λ (n : ℕ). before_star (drop n f.rule.now.pattern)) (counts old l) ∙ unstarred f.rule.now.pattern

@@ -1,5 +1,7 @@
 pub mod Asked
+pub mod Ends
 pub mod FitRules
+pub mod Grams
 pub mod Lookup
 pub mod Orders
 pub mod Patterns

@@ -125,15 +125,15 @@ front_none piece pattern text p h =
 
 -- ---- A piece after a star
 
-append_nothing : (xs : List ℕ) → xs ++ [] ≡ xs
+pub append_nothing : (xs : List ℕ) → xs ++ [] ≡ xs
 append_nothing [] = refl
 append_nothing (x ∷ xs) = ap (λ (t : List ℕ). x ∷ t) (append_nothing xs)
 
-nothing_left : (text : List ℕ) → is_empty text ≡ true → text ≡ []
+pub nothing_left : (text : List ℕ) → is_empty text ≡ true → text ≡ []
 nothing_left [] h = refl
 nothing_left (byte ∷ text) h = absurd (cc)
 
-ends_so : (piece before : List ℕ) → drop (length (before ++ piece) - length piece) (before ++ piece) ≡ piece
+pub ends_so : (piece before : List ℕ) → drop (length (before ++ piece) - length piece) (before ++ piece) ≡ piece
 ends_so piece before =
     let start : length (before ++ piece) - length piece ≡ length before = omega (arith, length-append before piece) in
     ap (λ (n : ℕ). drop n (before ++ piece)) start ∙ drop-append_seam before piece
