@@ -19,7 +19,7 @@ use Rattle.spec_tree.specs.Terms.{leaf_ids, own_leaf_id}
 use Rattle.spec_tree.specs.Trees.{Node, names_of, nodes_of, nodes_step}
 use Rattle.spec_tree_file.specs.declared.element.Element.{Element, fold_out-Element}
 use Rattle.spec_tree_file.specs.Models.{children_of, holds_models, name_of}
-use Rattle.cli_serve.specs.Leaves.{Leaves, Seen, after_start, after_starts, changed_at, ids_of, no_condition, own_node, own_start, row_of_leaf, unseen, with_leaf, with_node, with_nodes, with_ports, without_condition}
+use Rattle.cli_serve.specs.Leaves.{Leaves, Seen, after_start, after_starts, changed_at, ids_of, no_condition, own_node, own_start, row_of_leaf, unseen, with_id, with_node, with_nodes, without_condition}
 
 -- ---- Names
 
@@ -53,6 +53,25 @@ names_twice : (xs ys others : List (List ℕ)) → with_names ys (with_names xs 
 names_twice [] ys others = refl
 names_twice (x ∷ xs) ys others = names_twice xs ys (with_name x others)
 
+-- ---- All that nodes say
+
+-- that its nodes give these ports too
+abbrev pub with_all_ports : List (List ℕ) → Seen → Seen
+with_all_ports names seen = record seen { ports = with_names names seen.ports }
+
+-- with a leaf of this ID that gives these ports
+abbrev pub with_whole_leaf : List ℕ → List (List ℕ) → Leaves → Leaves
+with_whole_leaf id ports leaves = changed_at id (with_all_ports ports) (with_id id leaves)
+
+-- with a node, if it is a leaf
+abbrev pub with_whole_node : Node → Leaves → Leaves
+with_whole_node node leaves = if is_leaf node.kind then with_whole_leaf node.id (names_of node.ports) leaves else leaves
+
+-- with some nodes
+abbrev pub with_whole_nodes : List Node → Leaves → Leaves
+with_whole_nodes [] leaves = leaves
+with_whole_nodes (node ∷ nodes) leaves = with_whole_nodes nodes (with_whole_node node leaves)
+
 -- ---- One node more
 
 -- the IDs of the leaves among nodes
@@ -67,10 +86,10 @@ ports_of nodes = flat_map (λ (n : Node). names_of n.ports) nodes
 
 -- the leaf of an ID that gives these ports, and one that was there before
 abbrev fresh : (List ℕ → List (List ℕ)) → List ℕ → List ℕ × Seen
-fresh given id = (id, with_ports (given id) unseen)
+fresh given id = (id, with_all_ports (given id) unseen)
 
 abbrev further : (List ℕ → List (List ℕ)) → List ℕ × Seen → List ℕ × Seen
-further given leaf = (leaf.0, with_ports (given leaf.0) leaf.1)
+further given leaf = (leaf.0, with_all_ports (given leaf.0) leaf.1)
 
 -- leaves with those of these IDs, which give these ports
 abbrev with_all : (List ℕ → List (List ℕ)) → List (List ℕ) → Leaves → Leaves
@@ -103,33 +122,33 @@ module _ (node : Node) (nodes : List Node) where
   abbrev given_more : Bool → List ℕ → List (List ℕ)
   given_more leaf id = given_if (leaf && bytes_eq node.id id) id
 
-  one_more : (leaf : List ℕ × Seen) → further (given_by nodes) (if bytes_eq node.id leaf.0 then (leaf.0, with_ports names leaf.1) else leaf) ≡ further (given_more true) leaf
+  one_more : (leaf : List ℕ × Seen) → further (given_by nodes) (if bytes_eq node.id leaf.0 then (leaf.0, with_all_ports names leaf.1) else leaf) ≡ further (given_more true) leaf
   one_more leaf = by (bytes_eq node.id leaf.0)
     where
-      by : (b : Bool) → further (given_by nodes) (if b then (leaf.0, with_ports names leaf.1) else leaf) ≡ (leaf.0, with_ports (given_if b leaf.0) leaf.1)
+      by : (b : Bool) → further (given_by nodes) (if b then (leaf.0, with_all_ports names leaf.1) else leaf) ≡ (leaf.0, with_all_ports (given_if b leaf.0) leaf.1)
       by true = ap (λ (ports : List (List ℕ)). (leaf.0, record leaf.1 { ports = ports })) (names_twice names (given_by nodes leaf.0) leaf.1.ports)
       by false = refl
 
-  all_more : (leaves : Leaves) → map (further (given_by nodes)) (changed_at node.id (with_ports names) leaves) ≡ map (further (given_more true)) leaves
+  all_more : (leaves : Leaves) → map (further (given_by nodes)) (changed_at node.id (with_all_ports names) leaves) ≡ map (further (given_more true)) leaves
   all_more [] = refl
   all_more (leaf ∷ leaves) =
-      ap (λ (x : List ℕ × Seen). x ∷ map (further (given_by nodes)) (changed_at node.id (with_ports names) leaves)) (one_more leaf)
+      ap (λ (x : List ℕ × Seen). x ∷ map (further (given_by nodes)) (changed_at node.id (with_all_ports names) leaves)) (one_more leaf)
       ∙ ap (λ (xs : Leaves). further (given_more true) leaf ∷ xs) (all_more leaves)
 
   other_ports : (id : List ℕ) → bytes_eq node.id id ≡ false → fresh (given_by nodes) id ≡ fresh (given_more true) id
   other_ports id e = ap (λ (b : Bool). fresh (given_if b) id) (sym e)
 
-  own_ports : further (given_by nodes) (node.id, with_ports names unseen) ≡ fresh (given_more true) node.id
+  own_ports : further (given_by nodes) (node.id, with_all_ports names unseen) ≡ fresh (given_more true) node.id
   own_ports =
       ap (λ (ports : List (List ℕ)). (node.id, record unseen { ports = ports })) (names_twice names (given_by nodes node.id) [])
       ∙ ap (λ (b : Bool). fresh (given_if b) node.id) (sym (nat_list_eq_equiv.refl node.id))
 
   -- a leaf whose ID has stood before
   known : (leaves : Leaves) → is_among node.id (ids_of leaves) ≡ true
-      → with_all (given_by nodes) (leaf_ids_in nodes) (changed_at node.id (with_ports names) leaves) ≡ with_all (given_more true) (node.id ∷ leaf_ids_in nodes) leaves
+      → with_all (given_by nodes) (leaf_ids_in nodes) (changed_at node.id (with_all_ports names) leaves) ≡ with_all (given_more true) (node.id ∷ leaf_ids_in nodes) leaves
   known leaves there =
       let ids = leaf_ids_in nodes in
-      ap (λ (before : List (List ℕ)). map (further (given_by nodes)) (changed_at node.id (with_ports names) leaves) ++ map (fresh (given_by nodes)) (each_once before ids)) (same_ids node.id (with_ports names) leaves)
+      ap (λ (before : List (List ℕ)). map (further (given_by nodes)) (changed_at node.id (with_all_ports names) leaves) ++ map (fresh (given_by nodes)) (each_once before ids)) (same_ids node.id (with_all_ports names) leaves)
       ∙ (λ i. all_more leaves i ++ once_map (fresh (given_by nodes)) (fresh (given_more true)) node.id other_ports (ids_of leaves) (ids_of leaves) ids (λ n. refl) there i)
       ∙ ap (λ (b : Bool). map (further (given_more true)) leaves ++ map (fresh (given_more true)) (if b then each_once (ids_of leaves) ids else node.id ∷ each_once (node.id ∷ ids_of leaves) ids)) (sym there)
 
@@ -142,21 +161,21 @@ module _ (node : Node) (nodes : List Node) where
       by false true = refl
       by false false = refl
 
-  last_ids : (leaves : Leaves) → ids_of (changed_at node.id (with_ports names) leaves ++ (node.id, with_ports names unseen) ∷ []) ≡ ids_of leaves ++ node.id ∷ []
+  last_ids : (leaves : Leaves) → ids_of (changed_at node.id (with_all_ports names) leaves ++ (node.id, with_all_ports names unseen) ∷ []) ≡ ids_of leaves ++ node.id ∷ []
   last_ids leaves =
-      map-append (λ (leaf : List ℕ × Seen). leaf.0) (changed_at node.id (with_ports names) leaves) ((node.id, with_ports names unseen) ∷ [])
-      ∙ ap (λ (ids : List (List ℕ)). ids ++ node.id ∷ []) (same_ids node.id (with_ports names) leaves)
+      map-append (λ (leaf : List ℕ × Seen). leaf.0) (changed_at node.id (with_all_ports names) leaves) ((node.id, with_all_ports names unseen) ∷ [])
+      ∙ ap (λ (ids : List (List ℕ)). ids ++ node.id ∷ []) (same_ids node.id (with_all_ports names) leaves)
 
   -- a leaf whose ID is new
   new : (leaves : Leaves) → is_among node.id (ids_of leaves) ≡ false
-      → with_all (given_by nodes) (leaf_ids_in nodes) (changed_at node.id (with_ports names) (leaves ++ (node.id, unseen) ∷ [])) ≡ with_all (given_more true) (node.id ∷ leaf_ids_in nodes) leaves
+      → with_all (given_by nodes) (leaf_ids_in nodes) (changed_at node.id (with_all_ports names) (leaves ++ (node.id, unseen) ∷ [])) ≡ with_all (given_more true) (node.id ∷ leaf_ids_in nodes) leaves
   new leaves gone =
       let ids = leaf_ids_in nodes in
-      let changed = changed_at node.id (with_ports names) leaves in
-      let own : List ℕ × Seen = (node.id, with_ports names unseen) in
+      let changed = changed_at node.id (with_all_ports names) leaves in
+      let own : List ℕ × Seen = (node.id, with_all_ports names unseen) in
       let rest = map (fresh (given_more true)) (each_once (node.id ∷ ids_of leaves) ids) in
       ap (with_all (given_by nodes) ids)
-      (map-append (λ (leaf : List ℕ × Seen). if bytes_eq node.id leaf.0 then (leaf.0, with_ports names leaf.1) else leaf) leaves ((node.id, unseen) ∷ [])
+      (map-append (λ (leaf : List ℕ × Seen). if bytes_eq node.id leaf.0 then (leaf.0, with_all_ports names leaf.1) else leaf) leaves ((node.id, unseen) ∷ [])
       ∙ ap (λ (b : Bool). changed ++ (if b then own else (node.id, unseen)) ∷ []) (nat_list_eq_equiv.refl node.id))
       ∙ (λ i. map-append (further (given_by nodes)) changed (own ∷ []) i ++ map (fresh (given_by nodes)) (each_once (last_ids leaves i) ids))
       ∙ (λ i. (all_more leaves i ++ own_ports i ∷ [])
@@ -165,29 +184,29 @@ module _ (node : Node) (nodes : List Node) where
       ∙ append_assoc (map (further (given_more true)) leaves) (fresh (given_more true) node.id ∷ []) rest
       ∙ ap (λ (b : Bool). map (further (given_more true)) leaves ++ map (fresh (given_more true)) (if b then each_once (ids_of leaves) ids else node.id ∷ each_once (node.id ∷ ids_of leaves) ids)) (sym gone)
 
-  node_more : (leaves : Leaves) → with_all (given_by nodes) (leaf_ids_in nodes) (with_node node leaves) ≡ with_all (given_by (node ∷ nodes)) (leaf_ids_in (node ∷ nodes)) leaves
+  node_more : (leaves : Leaves) → with_all (given_by nodes) (leaf_ids_in nodes) (with_whole_node node leaves) ≡ with_all (given_by (node ∷ nodes)) (leaf_ids_in (node ∷ nodes)) leaves
   node_more leaves =
       by (is_leaf node.kind) ∙ ap (λ (own : List (List ℕ)). with_all (given_by (node ∷ nodes)) (own ++ leaf_ids_in nodes) leaves) (sym (own_id node.kind node.id))
     where
       by_id : (b : Bool) → is_among node.id (ids_of leaves) ≡ b
-          → with_all (given_by nodes) (leaf_ids_in nodes) (changed_at node.id (with_ports names) (if b then leaves else leaves ++ (node.id, unseen) ∷ [])) ≡ with_all (given_more true) (node.id ∷ leaf_ids_in nodes) leaves
+          → with_all (given_by nodes) (leaf_ids_in nodes) (changed_at node.id (with_all_ports names) (if b then leaves else leaves ++ (node.id, unseen) ∷ [])) ≡ with_all (given_more true) (node.id ∷ leaf_ids_in nodes) leaves
       by_id true e = known leaves e
       by_id false e = new leaves e
 
-      by : (b : Bool) → with_all (given_by nodes) (leaf_ids_in nodes) (if b then with_leaf node.id names leaves else leaves)
+      by : (b : Bool) → with_all (given_by nodes) (leaf_ids_in nodes) (if b then with_whole_leaf node.id names leaves else leaves)
           ≡ with_all (given_more b) ((if b then node.id ∷ [] else []) ++ leaf_ids_in nodes) leaves
       by true = by_id (is_among node.id (ids_of leaves)) refl
       by false = refl
 
 -- leaves with those of some nodes
-with_nodes_is : (nodes : List Node) (leaves : Leaves) → with_nodes nodes leaves ≡ with_all (given_by nodes) (leaf_ids_in nodes) leaves
+with_nodes_is : (nodes : List Node) (leaves : Leaves) → with_whole_nodes nodes leaves ≡ with_all (given_by nodes) (leaf_ids_in nodes) leaves
 with_nodes_is [] leaves = sym (append-nil (map (further (λ id. [])) leaves) ∙ map-id leaves)
-with_nodes_is (node ∷ nodes) leaves = with_nodes_is nodes (with_node node leaves) ∙ node_more node nodes leaves
+with_nodes_is (node ∷ nodes) leaves = with_nodes_is nodes (with_whole_node node leaves) ∙ node_more node nodes leaves
 
 -- some nodes after others
-pub nodes_after : (xs ys : List Node) (leaves : Leaves) → with_nodes (xs ++ ys) leaves ≡ with_nodes ys (with_nodes xs leaves)
-nodes_after [] ys leaves = refl
-nodes_after (x ∷ xs) ys leaves = nodes_after xs ys (with_node x leaves)
+pub nodes_after : (has : List ℕ → Bool) (xs ys : List Node) (leaves : Leaves) → with_nodes has (xs ++ ys) leaves ≡ with_nodes has ys (with_nodes has xs leaves)
+nodes_after has [] ys leaves = refl
+nodes_after has (x ∷ xs) ys leaves = nodes_after has xs ys (with_node has x leaves)
 
 -- ---- The leaves of a tree
 
@@ -215,7 +234,7 @@ ids_in_nodes = ind-Term HasIds (λ x y is.
 abbrev pub leaf_of : Term → List ℕ → List ℕ × Seen
 leaf_of term id = (id, record { condition = true; ports = ports_given id term })
 
-pub leaves_of_tree : (term : Term) → with_nodes (nodes_of term) [] ≡ map (leaf_of term) (each_once [] (leaf_ids term))
+pub leaves_of_tree : (term : Term) → with_whole_nodes (nodes_of term) [] ≡ map (leaf_of term) (each_once [] (leaf_ids term))
 leaves_of_tree term = with_nodes_is (nodes_of term) [] ∙ ap (λ (ids : List (List ℕ)). map (leaf_of term) (each_once [] ids)) (sym (ids_in_nodes term))
 
 -- ---- Elements
@@ -308,10 +327,10 @@ starts_after (x ∷ xs) ys leaves = starts_after xs ys (after_start x leaves)
 
 -- the rows of the leaves of a tree, after the starts of the elements of its file
 pub rows_are : (root : Element) (term : Term)
-    → map (row_of_leaf (model_elements (children_of root))) (after_starts (tree_starts root) (with_nodes (nodes_of term) [])) ≡ told_rows root term
+    → map (row_of_leaf (model_elements (children_of root))) (after_starts (tree_starts root) (with_whole_nodes (nodes_of term) [])) ≡ told_rows root term
 rows_are root term =
     let rows = map (row_of_leaf (model_elements (children_of root))) in
-    ap rows (after_starts_is (tree_starts root) (with_nodes (nodes_of term) []) ∙ ap (map (marked (tree_starts root))) (leaves_of_tree term))
+    ap rows (after_starts_is (tree_starts root) (with_whole_nodes (nodes_of term) []) ∙ ap (map (marked (tree_starts root))) (leaves_of_tree term))
     ∙ ap rows (map-map (marked (tree_starts root)) (leaf_of term) (each_once [] (leaf_ids term)))
     ∙ map-map (row_of_leaf (model_elements (children_of root))) (λ id. marked (tree_starts root) (leaf_of term id)) (each_once [] (leaf_ids term))
 
@@ -325,22 +344,22 @@ nodes_out term =
     ∙ ap (λ (count : ℕ). record (own_node term) { children = count } ∷ flat_map (λ (ns : List Node). ns) (map nodes_of children)) (length-map children nodes_of)
     ∙ ap (λ (ns : List Node). own_node term ∷ ns) (flat_map-map (λ (ns : List Node). ns) nodes_of children)
 
-module _ (items : List Term) (i : ℕ) where
-  pub child_more : (child : Term) (leaves more whole : Leaves) → i < length items → child ≡ get_or items i child → more ≡ with_nodes (nodes_of child) leaves
-      → with_nodes (flat_map nodes_of (drop i items)) leaves ≡ whole → with_nodes (flat_map nodes_of (drop (i + 1) items)) more ≡ whole
+module _ (has : List ℕ → Bool) (items : List Term) (i : ℕ) where
+  pub child_more : (child : Term) (leaves more whole : Leaves) → i < length items → child ≡ get_or items i child → more ≡ with_nodes has (nodes_of child) leaves
+      → with_nodes has (flat_map nodes_of (drop i items)) leaves ≡ whole → with_nodes has (flat_map nodes_of (drop (i + 1) items)) more ≡ whole
   child_more child leaves more whole within is added so_far =
-      ap (with_nodes (flat_map nodes_of (drop (i + 1) items))) added
-      ∙ sym (nodes_after (nodes_of child) (flat_map nodes_of (drop (i + 1) items)) leaves)
-      ∙ ap (λ (terms : List Term). with_nodes (flat_map nodes_of terms) leaves)
+      ap (with_nodes has (flat_map nodes_of (drop (i + 1) items))) added
+      ∙ sym (nodes_after has (nodes_of child) (flat_map nodes_of (drop (i + 1) items)) leaves)
+      ∙ ap (λ (terms : List Term). with_nodes has (flat_map nodes_of terms) leaves)
       (ap (λ (t : Term). t ∷ drop (i + 1) items) is ∙ sym (drop_more items i child within))
       ∙ so_far
 
   pub all_children : (term : Term) (leaves old : Leaves) → length items ≤ i → items ≡ (out-Term term).children
-      → with_nodes (flat_map nodes_of (drop i items)) leaves ≡ with_nodes (flat_map nodes_of items) (with_node (own_node term) old) → leaves ≡ with_nodes (nodes_of term) old
+      → with_nodes has (flat_map nodes_of (drop i items)) leaves ≡ with_nodes has (flat_map nodes_of items) (with_node has (own_node term) old) → leaves ≡ with_nodes has (nodes_of term) old
   all_children term leaves old ended is so_far =
-      ap (λ (terms : List Term). with_nodes (flat_map nodes_of terms) leaves) (sym (drop_all i items ended)) ∙ so_far
-      ∙ ap (λ (terms : List Term). with_nodes (flat_map nodes_of terms) (with_node (own_node term) old)) is
-      ∙ ap (λ (ns : List Node). with_nodes ns old) (sym (nodes_out term))
+      ap (λ (terms : List Term). with_nodes has (flat_map nodes_of terms) leaves) (sym (drop_all i items ended)) ∙ so_far
+      ∙ ap (λ (terms : List Term). with_nodes has (flat_map nodes_of terms) (with_node has (own_node term) old)) is
+      ∙ ap (λ (ns : List Node). with_nodes has ns old) (sym (nodes_out term))
 
 -- an element's start, and then those in it
 starts_out : (e : Element) → starts_of e ≡ own_start e ∷ flat_map starts_of (children_of e)

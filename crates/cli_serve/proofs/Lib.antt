@@ -4,6 +4,7 @@ pub mod Asked
 pub mod Finishing
 pub mod Hearing
 pub mod Inputs
+pub mod Kept
 pub mod Laws
 pub mod Leaves
 pub mod Left
@@ -15,6 +16,7 @@ pub mod Own
 pub mod Owned
 pub mod Parts
 pub mod Placed
+pub mod Places
 pub mod Requests
 pub mod Rowed
 pub mod Runnable

@@ -12,7 +12,7 @@ use Rattle.cli_serve.specs.Leaves.{Leaves, Seen, changed_at, unseen, with_id}
 
 -- ---- One ID more
 
-none_is : {A : Type 0} (o : Option A) → is_some o ≡ false → o ≡ None
+pub none_is : {A : Type 0} (o : Option A) → is_some o ≡ false → o ≡ None
 none_is None e = refl
 none_is (Some x) e = absurd (cc)
 

@@ -1,14 +1,13 @@
 -- What nodes and elements say of the IDs of leaves: a table to which more is added.
-use Rattle.std.specs.Prelude.{◌≡◌, ◌≤◌, ℕ, Bool, true, false, not, ◌||◌, if◌then◌else◌, List, [], ◌∷◌, ◌++◌, map, filter, insert, length, codes, bytes_eq, Option, Some, None, option_to_list, Result, Ok, Err}
-use Rattle.std.specs.List.{flat_map}
+use Rattle.std.specs.Prelude.{◌≡◌, ◌≤◌, ℕ, nat_le, Bool, true, false, if◌then◌else◌, List, [], ◌∷◌, ◌++◌, map, insert, length, bytes_eq, Option, Some, None, Result, Ok, Err}
 use Rattle.spec_run.specs.Joins.{is_leaf}
-use Rattle.spec_serve.specs.Rows.{Start, is_condition, model_of, node_id, row_for, starts_of, with_name, with_names}
+use Rattle.spec_serve.specs.Rows.{Start, is_condition, model_of, node_id, row_for, with_name}
+use Rattle.spec_tree.specs.Limits.{most_made_ports}
 use Rattle.spec_tree.specs.declared.term.Term.{Term, out-Term}
 use Rattle.spec_tree.specs.Names.{is_among}
 use Rattle.spec_tree.specs.Trees.{Node, names_of}
 use Rattle.spec_tree_file.specs.declared.element.Element.{Element}
-use Rattle.spec_tree_file.specs.Attributes.{value_of}
-use Rattle.spec_tree_file.specs.Models.{attributes_of, can_be_written, holds_models, name_of}
+use Rattle.spec_tree_file.specs.Models.{attributes_of, name_of}
 use Rattle.spec_world.specs.declared.world.Row.{Row}
 
 -- what is said of an ID: whether each of its elements is a condition, and the ports that its nodes give
@@ -41,21 +40,27 @@ with_id id leaves = if is_among id (ids_of leaves) then leaves else leaves ++ (i
 abbrev pub changed_at : List ℕ → (Seen → Seen) → Leaves → Leaves
 changed_at id change leaves = map (λ (leaf : List ℕ × Seen). if bytes_eq id leaf.0 then (leaf.0, change leaf.1) else leaf) leaves
 
--- that its nodes give these ports too
+-- names among others, each in its place, once, until there are more than a row may have
+abbrev pub with_some : List (List ℕ) → List (List ℕ) → List (List ℕ)
+with_some [] others = others
+with_some (name ∷ names) others = if nat_le (length others) most_made_ports then with_some names (with_name name others) else others
+
+-- that its nodes give these ports too, if there are not yet more than a row may have
 abbrev pub with_ports : List (List ℕ) → Seen → Seen
-with_ports names seen = record seen { ports = with_names names seen.ports }
+with_ports names seen = record seen { ports = with_some names seen.ports }
 
 -- that one of its elements is no condition
 abbrev pub no_condition : Seen → Seen
 no_condition seen = record seen { condition = false }
 
--- with a leaf of this ID that gives these ports
-abbrev pub with_leaf : List ℕ → List (List ℕ) → Leaves → Leaves
-with_leaf id ports leaves = changed_at id (with_ports ports) (with_id id leaves)
+-- with a leaf of this ID that gives these ports, which do not count where the ID has a model
+abbrev pub with_leaf : (List ℕ → Bool) → List ℕ → List (List ℕ) → Leaves → Leaves
+with_leaf has_model id ports leaves =
+    if has_model id then with_id id leaves else changed_at id (with_ports ports) (with_id id leaves)
 
 -- with a node, if it is a leaf
-abbrev pub with_node : Node → Leaves → Leaves
-with_node node leaves = if is_leaf node.kind then with_leaf node.id (names_of node.ports) leaves else leaves
+abbrev pub with_node : (List ℕ → Bool) → Node → Leaves → Leaves
+with_node has_model node leaves = if is_leaf node.kind then with_leaf has_model node.id (names_of node.ports) leaves else leaves
 
 -- the own node of a term
 abbrev pub own_node : Term → Node
@@ -71,9 +76,9 @@ own_node term = record {
 }
 
 -- with some nodes
-abbrev pub with_nodes : List Node → Leaves → Leaves
-with_nodes [] leaves = leaves
-with_nodes (node ∷ nodes) leaves = with_nodes nodes (with_node node leaves)
+abbrev pub with_nodes : (List ℕ → Bool) → List Node → Leaves → Leaves
+with_nodes has_model [] leaves = leaves
+with_nodes has_model (node ∷ nodes) leaves = with_nodes has_model nodes (with_node has_model node leaves)
 
 -- after an ID, where it is one, is said to be that of no condition
 abbrev pub without_condition : Option (List ℕ) → Leaves → Leaves

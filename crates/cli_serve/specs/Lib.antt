@@ -2,6 +2,7 @@ pub mod Asking
 pub mod Ends
 pub mod Files
 pub mod Leaves
+pub mod Places
 pub mod Rows
 pub mod Serving
 pub mod Starts

@@ -1,9 +1,10 @@
 //! The rows of a tree that is served without a world.
-ghost use Rattle.std.specs.Prelude.{◌≡◌, ◌≤◌, ◌&&◌, [], ◌∷◌, ◌++◌, IfOk, OnOk, bytes_eq, filter, length, map};
+ghost use Rattle.std.specs.Prelude.{◌≡◌, ◌≤◌, [], ◌∷◌, ◌++◌, IfOk, OnOk, bytes_eq, filter, length, map, slice_get};
 ghost use Rattle.std.specs.Option.{option_copied, option_to_list};
 ghost use Rattle.cli_serve.specs.Leaves.{after_start, after_starts, changed_at, no_condition, own_node, own_start, IsPlace, row_of_leaf, with_id, with_leaf, with_node, with_nodes, with_ports};
+ghost use Rattle.cli_serve.specs.Places.{FindModels, has_model, modelled_id, with_model, with_place};
 ghost use Rattle.cli_serve.specs.Rows.{IsTreeOf, RowGives, RowsGive, SortGives, ToldWorld, WorldGives};
-ghost use Rattle.spec_serve.specs.Rows.{is_of, model_elements, model_of, node_id, ports_of, ports_towards, row_for, starts_in, starts_of, told_row, told_sort, told_world, too_many, tree_starts, with_name, with_names};
+ghost use Rattle.spec_serve.specs.Rows.{model_elements, model_of, node_id, ports_of, ports_towards, row_for, starts_in, starts_of, told_row, told_sort, told_world, too_many, tree_starts, with_name, with_names};
 ghost use Rattle.spec_tree.specs.Limits.{most_file_bytes};
 ghost use Rattle.spec_tree.specs.Trees.{IsValid, names_of, nodes_of};
 ghost use Rattle.spec_tree_file.specs.Models.{attributes_of, children_of, is_model, name_of};
@@ -29,7 +30,8 @@ use tree_manifest::{attribute, can_be_written};
 struct Leaf {
     /// Whether each element of the ID is a `Condition`.
     is_condition: bool,
-    /// The ports that its nodes give, by the bytes of their names.
+    /// The ports that its nodes give, by the bytes of their names. None are taken where the ID has a node model, and no
+    /// more where they are already more than a row may have.
     ports: Vec<Name>,
 }
 
@@ -43,6 +45,9 @@ impl Model for Leaf {
 
 /// The leaves of a tree by their IDs, in the order in which they stand.
 type Leaves = IndexMap<Name, Leaf>;
+
+/// The places of the models of a file by their IDs.
+type Places = IndexMap<Name, usize>;
 
 /// The place of a port among others, which stand in their order; the error is the place where it belongs.
 fn place_of(port: &Name, ports: &[Name]) -> Result<usize, usize>
@@ -68,11 +73,14 @@ fn add_port(alloc: Global, port: &Name, ports: &mut Vec<Name>) -> Result<(), NoM
     Ok(())
 }
 
-/// Adds the ports of a node to those of its ID.
+/// Adds the ports of a node to those of its ID, up to the first that is one more than a row may have.
 fn add_ports(alloc: Global, ports: &[Port], leaf: &mut Leaf) -> Result<(), NoMemory>
     ensures { OnOk result (leaf.new ≡ with_ports (names_of ports.now) leaf.old) }
 {
     for port in ports {
+        if leaf.ports.len() > MOST_MADE_PORTS {
+            return Ok(());
+        }
         add_port(alloc, &port.name, &mut leaf.ports)?;
     }
     Ok(())
@@ -92,11 +100,21 @@ fn add_id(alloc: Global, id: &Name, leaves: &mut Leaves) -> Result<(), NoMemory>
     Ok(())
 }
 
-/// Adds a leaf of this ID with the ports that its node gives.
-fn add_leaf(alloc: Global, id: &Name, ports: &[Port], leaves: &mut Leaves) -> Result<(), NoMemory>
-    ensures { OnOk result (leaves.new.entries ≡ with_leaf id.now (names_of ports.now) leaves.old.entries) }
+/// Adds a leaf of this ID with the ports that its node gives, which do not count where there is a model.
+fn add_leaf(
+    alloc: Global,
+    id: &Name,
+    ports: &[Port],
+    models: &Places,
+    leaves: &mut Leaves,
+) -> Result<(), NoMemory>
+    ensures { OnOk result (leaves.new.entries ≡
+        with_leaf (has_model models.now.entries) id.now (names_of ports.now) leaves.old.entries) }
 {
     add_id(alloc, id, leaves)?;
+    if models.contains_key(id) {
+        return Ok(());
+    }
     match leaves.get_mut(id) {
         Some(leaf) => add_ports(alloc, ports, leaf),
         None => Ok(()),
@@ -104,22 +122,34 @@ fn add_leaf(alloc: Global, id: &Name, ports: &[Port], leaves: &mut Leaves) -> Re
 }
 
 /// Adds the node of a term, if it is a leaf.
-fn add_node(alloc: Global, term: &Term, leaves: &mut Leaves) -> Result<(), NoMemory>
-    ensures { OnOk result (leaves.new.entries ≡ with_node (own_node term.now) leaves.old.entries) }
+fn add_node(
+    alloc: Global,
+    term: &Term,
+    models: &Places,
+    leaves: &mut Leaves,
+) -> Result<(), NoMemory>
+    ensures { OnOk result (leaves.new.entries ≡
+        with_node (has_model models.now.entries) (own_node term.now) leaves.old.entries) }
 {
     match term.kind {
-        Kind::Leaf => add_leaf(alloc, &term.id, term.ports.list(), leaves),
+        Kind::Leaf => add_leaf(alloc, &term.id, term.ports.list(), models, leaves),
         _ => Ok(()),
     }
 }
 
 /// Adds the leaves of a term with the ports that they give.
-fn add_leaves(alloc: Global, term: &Term, leaves: &mut Leaves) -> Result<(), NoMemory>
-    ensures { OnOk result (leaves.new.entries ≡ with_nodes (nodes_of term.now) leaves.old.entries) }
+fn add_leaves(
+    alloc: Global,
+    term: &Term,
+    models: &Places,
+    leaves: &mut Leaves,
+) -> Result<(), NoMemory>
+    ensures { OnOk result (leaves.new.entries ≡
+        with_nodes (has_model models.now.entries) (nodes_of term.now) leaves.old.entries) }
 {
-    add_node(alloc, term, leaves)?;
+    add_node(alloc, term, models, leaves)?;
     for child in term.children.list() {
-        add_leaves(alloc, child, leaves)?;
+        add_leaves(alloc, child, models, leaves)?;
     }
     Ok(())
 }
@@ -203,29 +233,69 @@ fn models(elements: &Elements) -> &[Element]
     &[]
 }
 
-/// Whether an element is a model of this ID.
-fn is_model_of(element: &Element, id: &Name) -> bool
-    ensures { result ≡ (is_model (name_of element.now) && is_of id.now (name_of element.now) (attributes_of element.now)) }
+/// The ID of which an element is a model, if it is one.
+fn modelled_id(element: &Element) -> Option<&Name>
+    ensures { option_copied result ≡ modelled_id element.now }
 {
-    if !is(element, b"Action") && !is(element, b"Condition") {
-        return false;
-    }
-    match id_of(element) {
-        Some(other) => id == other,
-        None => false,
+    if is(element, b"Action") || is(element, b"Condition") {
+        attribute(element.attributes.list(), b"ID")
+    } else {
+        None
     }
 }
 
+/// Adds the place of a model of this ID, if there is none yet.
+fn add_place(alloc: Global, id: &Name, at: usize, places: &mut Places) -> Result<(), NoMemory>
+    ensures { OnOk result (places.new.entries ≡ with_place id.now at places.old.entries) }
+{
+    if !places.contains_key(id) {
+        places.insert(id.copy(alloc)?, at)?;
+    }
+    Ok(())
+}
+
+/// Adds the place of an element, if it is the first model of its ID.
+fn add_model(
+    alloc: Global,
+    element: &Element,
+    at: usize,
+    places: &mut Places,
+) -> Result<(), NoMemory>
+    ensures { OnOk result (places.new.entries ≡ with_model (modelled_id element.now) at places.old.entries) }
+{
+    match modelled_id(element) {
+        Some(id) => add_place(alloc, id, at, places),
+        None => Ok(()),
+    }
+}
+
+/// The places of models by their IDs.
+fn places_of(alloc: Global, models: &[Element]) -> Result<Places, NoMemory>
+    ensures { IfOk result (λ places. FindModels places.entries models.now) }
+{
+    let mut places = IndexMap::new(alloc);
+    for (at, model) in models.iter().enumerate() {
+        add_model(alloc, model, at, &mut places)?;
+    }
+    Ok(places)
+}
+
+/// The model at a place, if there is one.
+fn model_at(models: &[Element], place: usize) -> Option<&Element>
+    ensures { option_copied result ≡ slice_get models.now place }
+{
+    models.get(place)
+}
+
 /// The model of an ID, if there is one.
-fn model_of<'a>(models: &'a [Element], id: &Name) -> Option<&'a Element>
+fn model_of<'a>(models: &'a [Element], places: &Places, id: &Name) -> Option<&'a Element>
+    requires places { FindModels places.now.entries models.now }
     ensures { option_copied result ≡ model_of id.now (filter (λ m. is_model (name_of m)) models.now) }
 {
-    for model in models {
-        if is_model_of(model, id) {
-            return Some(model);
-        }
+    match places.get(id) {
+        Some(place) => model_at(models, *place),
+        None => None,
     }
-    None
 }
 
 /// The name of a port of a model, if it has this direction or both, and can be written.
@@ -315,11 +385,18 @@ fn told_row(
 }
 
 /// The row of an ID: by its model, or else by its nodes.
-fn row_of(alloc: Global, id: &Name, leaf: &Leaf, models: &[Element]) -> Result<Row, Refusal>
+fn row_of(
+    alloc: Global,
+    id: &Name,
+    leaf: &Leaf,
+    models: &[Element],
+    places: &Places,
+) -> Result<Row, Refusal>
+    requires places { FindModels places.now.entries models.now }
     ensures { RowGives result (row_for (model_of id.now (filter (λ m. is_model (name_of m)) models.now)) id.now
         leaf.now.condition leaf.now.ports) }
 {
-    match model_of(models, id) {
+    match model_of(models, places, id) {
         Some(model) => {
             let inputs = ports_of(alloc, model, b"input_port")?;
             let outputs = ports_of(alloc, model, b"output_port")?;
@@ -342,7 +419,13 @@ fn add_row(rows: &mut Vec<Row>, row: Row) -> Result<(), NoMemory>
 }
 
 /// The rows of leaves.
-fn rows_of(alloc: Global, leaves: &Leaves, models: &[Element]) -> Result<Vec<Row>, Refusal>
+fn rows_of(
+    alloc: Global,
+    leaves: &Leaves,
+    models: &[Element],
+    places: &Places,
+) -> Result<Vec<Row>, Refusal>
+    requires places { FindModels places.now.entries models.now }
     ensures { RowsGive result (map (row_of_leaf (filter (λ m. is_model (name_of m)) models.now)) leaves.now.entries) }
 {
     if leaves.len() > MOST_MADE_ROWS {
@@ -350,7 +433,7 @@ fn rows_of(alloc: Global, leaves: &Leaves, models: &[Element]) -> Result<Vec<Row
     }
     let mut rows = Vec::new(alloc);
     for (id, leaf) in leaves.iter() {
-        add_row(&mut rows, row_of(alloc, id, leaf, models)?)?;
+        add_row(&mut rows, row_of(alloc, id, leaf, models, places)?)?;
     }
     Ok(rows)
 }
@@ -359,10 +442,12 @@ fn rows_of(alloc: Global, leaves: &Leaves, models: &[Element]) -> Result<Vec<Row
 fn world_of(alloc: Global, elements: &Elements, tree: &Tree) -> Result<World, Refusal>
     ensures { WorldGives result (told_world elements.now.root tree.now.term) }
 {
+    let models = models(elements);
+    let places = places_of(alloc, models)?;
     let mut leaves = IndexMap::new(alloc);
-    add_leaves(alloc, &tree.term, &mut leaves)?;
+    add_leaves(alloc, &tree.term, &places, &mut leaves)?;
     mark_trees(elements, &mut leaves);
-    let rows = rows_of(alloc, &leaves, models(elements))?;
+    let rows = rows_of(alloc, &leaves, models, &places)?;
     Ok(World {
         facts: Items::of(Vec::new(alloc)),
         rows: Items::of(rows),
