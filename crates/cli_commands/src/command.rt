@@ -9,7 +9,7 @@ ghost use Rattle.spec_tree.specs.Trees.{IsValid};
 ghost use Rattle.spec_world.specs.Worlds.{IsValidWorld};
 ghost use Rattle.spec_program.specs.declared.course.Course.TheVariants as course;
 ghost use Rattle.spec_program.specs.Answered.{AreShort, WordsAnswered};
-ghost use Rattle.spec_program.specs.Answers.{WritesAt, side};
+ghost use Rattle.spec_program.specs.Answers.{WritesAt};
 ghost use Rattle.spec_outside.specs.Counts.{Rose};
 ghost use Rattle.cli_refusals.specs.Ends.{EndWrites, EndsAt};
 ghost use Rattle.cli_refusals.specs.Lent.Lent.{Stays, seen};
@@ -23,7 +23,6 @@ ghost use Rattle.spec_program.specs.Gives.{CourseGives, MadeGives, PrintGives, S
 ghost use Rattle.cli_commands.specs.Standing.{StandingGives};
 ghost use Rattle.spec_program.specs.Plans.{PlanBegins, PlanGives};
 ghost use Rattle.plan_search.specs.Reached.{AreInRange};
-ghost use Rattle.text_trace.specs.Traces.{AreKept};
 
 use crate::mocking::{mock_tree, mock_tree_apart};
 use crate::reading::{FilesRead, read_files};
@@ -422,8 +421,8 @@ fn answer<S: Shelf, K: Sink, C: Clock, D: Drivers>(
 }
 
 /// Reads the files of the command that the words of a command line are, each once, and answers it over
-/// them; or writes the line of its refusal.
-fn answer_words<S: Shelf, K: Sink, C: Clock, D: Drivers>(
+/// them, line by line; or writes the line of its refusal.
+pub fn answer_words<S: Shelf, K: Sink, C: Clock, D: Drivers>(
     alloc: Global,
     words: &[Name],
     outside: &mut Outside<S, K, C, D>,
@@ -448,35 +447,4 @@ fn answer_words<S: Shelf, K: Sink, C: Clock, D: Drivers>(
         },
         Err(refusal) => write_refusal(alloc, &refusal, outside.out),
     }
-}
-
-/// Runs the command that the words of a command line are, over the files of the shelf, the moments of
-/// the clock and the drivers, and writes its output line by line to the sink, or the line of its
-/// refusal.
-pub fn run_words<S: Shelf, K: Sink, C: Clock, D: Drivers>(
-    alloc: Global,
-    words: &[Name],
-    shelf: &mut S,
-    out: &mut K,
-    clock: &mut C,
-    drivers: &mut D,
-) -> Exit
-    requires quiet { NothingHeld (D.states drivers.old) }
-    ensures reads { WordsAnswered S.read_gives (S.holds shelf.old) (command_of words.now)
-        (Rose (S.faults shelf.old) (S.faults shelf.new)) shelf.old shelf.new result
-        (side (K.written out.old) (K.faults out.old) (C.moments clock.old) (D.states drivers.old))
-        (side (K.written out.new) (K.faults out.new) (C.moments clock.new) (D.states drivers.new)) }
-    ensures held { S.holds shelf.new ≡ S.holds shelf.old }
-    ensures kept { AreKept (D.states drivers.old) (D.states drivers.new) }
-    ensures read_count { S.faults shelf.old ≤ S.faults shelf.new }
-    ensures count { K.faults out.old ≤ K.faults out.new }
-    ensures writes { WritesAt K.write_gives result out.old out.new }
-{
-    let mut outside = Outside {
-        shelf,
-        out,
-        clock,
-        drivers,
-    };
-    answer_words(alloc, words, &mut outside)
 }

@@ -6,5 +6,5 @@ mod command;
 mod mocking;
 mod reading;
 
-pub use command::run_words;
+pub use command::answer_words;
 pub use reading::read_named;

@@ -11,7 +11,8 @@ ghost use Rattle.spec_program.specs.Words.{command_of};
 use crate::boxes::Boxes;
 use base_outside::{Clock, Shelf, Sink};
 use base_texts::Name;
-use cli_commands::run_words;
+use cli_commands::answer_words;
+use cli_refusals::Outside;
 use expect_reader::laws::expectations_read_one_way;
 use plan_search::laws::{
     plan_cuts_begin_within, planned_trees_join, plans_are_short, plans_reach, plans_run_one_way,
@@ -108,7 +109,13 @@ pub fn bt<S: Shelf, K: Sink, C: Clock>(
     let mut boxes = Boxes {
         drivers: mem::replace(roster, Vec::new(alloc)),
     };
-    let exit = run_words(alloc, words, shelf, out, clock, &mut boxes);
+    let mut outside = Outside {
+        shelf,
+        out,
+        clock,
+        drivers: &mut boxes,
+    };
+    let exit = answer_words(alloc, words, &mut outside);
     *roster = boxes.drivers;
     exit
 }
