@@ -11,7 +11,7 @@ use Rattle.spec_outside.specs.declared.shelf_fault.ShelfFault.TheVariants as fau
 use Rattle.spec_plan.specs.declared.ending.Limits.{Limits}
 use Rattle.spec_program.specs.declared.file.File.{File}
 use Rattle.spec_program.specs.declared.file.File.TheVariants as file
-use Rattle.spec_program.specs.Refused.{too_long}
+use Rattle.spec_program.specs.RefusalOutputs.{too_long}
 use Rattle.spec_program.specs.Answers.{Answers, Gave, RanOut, Side}
 use Rattle.spec_program.specs.Output.{AreUncalled}
 use Rattle.spec_program.specs.Answered.{AnsweredAfter, AreTold, WordsAnswered}

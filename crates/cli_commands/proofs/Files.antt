@@ -27,7 +27,7 @@ use Rattle.spec_program.specs.Answers.{Answers, Gave, Side, side}
 use Rattle.cli_refusals.specs.Printing.{Printed}
 use Rattle.spec_program.specs.Answered.{AnsweredAfter, AreWithin, ToldIfNamed, WordsAnswered}
 use Rattle.cli_refusals.specs.Refusing.{IsRefused, refused_as, stopped_as}
-use Rattle.spec_program.specs.Refused.{too_long, tree_refused, unread, world_refused}
+use Rattle.spec_program.specs.RefusalOutputs.{too_long, tree_refused, unread, world_refused}
 use Rattle.cli_refusals.specs.Ends.{Ends, EndsAt, IsUntouched}
 use Rattle.spec_program.specs.Files.{Contents}
 use Rattle.spec_program.specs.Jobs.{FilesBegin, FilesGive, files_of}

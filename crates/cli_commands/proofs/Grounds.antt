@@ -14,7 +14,7 @@ use Rattle.cli_refusals.specs.Ends.{Ends, EndsAt}
 use Rattle.spec_program.specs.Grounds.{GroundGives, GroundPlanBegins, GroundPlanGives, GroundPlans, GroundedPlans, Grounds}
 use Rattle.spec_program.specs.Printed.{ground_output}
 use Rattle.spec_program.specs.Output.{AreUncalled, Ending, Output}
-use Rattle.spec_program.specs.Refused.{ground_refused}
+use Rattle.spec_program.specs.RefusalOutputs.{ground_refused}
 use Rattle.cli_refusals.specs.Refusing.{stopped_as}
 use Rattle.spec_program.specs.PlanOutputs.{WorldBegun, WorldPlans}
 use Rattle.cli_commands.proofs.Files.{LongAlone, long_is, match_false, match_true, short_is}

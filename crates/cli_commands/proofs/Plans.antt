@@ -10,7 +10,7 @@ use Rattle.cli_refusals.specs.declared.refusal.Refusal.{Refusal}
 use Rattle.cli_refusals.specs.declared.refusal.Refusal.TheVariants as refusal
 use Rattle.spec_program.specs.Answers.{Side}
 use Rattle.cli_refusals.specs.Refusing.{stopped_as}
-use Rattle.spec_program.specs.Refused.{world_refused}
+use Rattle.spec_program.specs.RefusalOutputs.{world_refused}
 use Rattle.cli_refusals.specs.Ends.{Ends, EndsAt}
 use Rattle.spec_program.specs.Output.{Output}
 use Rattle.world_reader.specs.Readings.{Gives}

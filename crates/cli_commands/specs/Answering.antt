@@ -5,7 +5,7 @@ use Rattle.spec_program.specs.declared.file.File.{File}
 use Rattle.spec_program.specs.Files.{Contents, Named}
 use Rattle.spec_program.specs.Jobs.{FilesBegin, FilesGive, files_of}
 use Rattle.spec_program.specs.Gives.{Beginning, Giving}
-use Rattle.spec_program.specs.Refused.{words_refused}
+use Rattle.spec_program.specs.RefusalOutputs.{words_refused}
 use Rattle.spec_program.specs.Words.{Command}
 use Rattle.spec_program.specs.Answers.{Side, Gave}
 use Rattle.spec_program.specs.Answered.{AreTold, GaveOf, ReadFailed}

@@ -45,7 +45,7 @@ use Rattle.spec_exclusive.specs.declared.pair.Pair.{Pair}
 use Rattle.spec_exclusive.specs.Pairs.{meeting_pairs, missing_leaf}
 use Rattle.spec_program.specs.Exclusives.{ExclusiveGives, exclusive_output, leaves_output, pairs_output}
 use Rattle.spec_program.specs.Gives.{MadeGives, MockGives, PrintGives, RunGives, Standing, TreeGives, is_too_long, itself, made_output, mocked, mocked_apart, standing_output, world_output}
-use Rattle.spec_program.specs.Refused.{ground_refused, too_long, tree_refused, unread, world_refused}
+use Rattle.spec_program.specs.RefusalOutputs.{ground_refused, too_long, tree_refused, unread, world_refused}
 use Rattle.spec_program.specs.Plans.{FileBegun, PlanGives, ReadPlans}
 use Rattle.spec_program.specs.PlanOutputs.{IsPlanned, PlannedOr, first_unserved, refusal_for}
 use Rattle.spec_plan.specs.PlanAnswers.{IsPlan, IsPlanCut}

@@ -57,7 +57,7 @@ use Rattle.spec_program.specs.Exclusives.{ExclusiveGives, exclusive_output, leav
 use Rattle.spec_program.specs.Gives.{Beginning, Giving, MadeGives, MockGives, OrTooLong, PrintGives, ReadGives, RunGives, Standing, TreeGives, WorldGives, is_too_long, itself, made_output, mocked, mocked_apart, standing_output, world_output}
 use Rattle.spec_program.specs.Courses.{Given, given, joined_output, run_exit}
 use Rattle.spec_run.specs.Joins.{lack_of}
-use Rattle.spec_program.specs.Refused.{ground_refused, join_refused, no_goal, too_long, tree_refused, unread, words_refused, world_refused}
+use Rattle.spec_program.specs.RefusalOutputs.{ground_refused, join_refused, no_goal, too_long, tree_refused, unread, words_refused, world_refused}
 use Rattle.spec_program.specs.TreeFiles.{TreeReads, element_read}
 use Rattle.spec_program.specs.Words.{Command, Tick, Live, Load, Check, Dead, Exclusive, Plan, Mock, MockPrint, Ground, GroundPlan, Expect}
 use Rattle.spec_program.specs.declared.file.File.{File}

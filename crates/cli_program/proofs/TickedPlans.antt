@@ -21,7 +21,7 @@ use Rattle.spec_program.specs.declared.file.File.TheVariants as file
 use Rattle.spec_program.specs.Gives.{RunGives, is_too_long}
 use Rattle.spec_program.specs.Headline.{PlanReaches, plan_file, ticking}
 use Rattle.spec_program.specs.Output.{Output}
-use Rattle.spec_program.specs.Refused.{too_long}
+use Rattle.spec_program.specs.RefusalOutputs.{too_long}
 use Rattle.cli_program.proofs.Clauses.{OneReading, one_run}
 
 not_long : (bytes : List ℕ) → length bytes ≤ most_file_bytes → is_too_long bytes ≡ false

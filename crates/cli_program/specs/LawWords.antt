@@ -8,7 +8,7 @@ use Rattle.spec_program.specs.Gives.{RunGives}
 use Rattle.spec_program.specs.Headline.{plan_file, ticking}
 use Rattle.spec_program.specs.Output.{AreUncalled, Output}
 use Rattle.spec_program.specs.Reads.{Reading}
-use Rattle.spec_program.specs.Refused.{unread}
+use Rattle.spec_program.specs.RefusalOutputs.{unread}
 use Rattle.spec_program.specs.Words.{Command, Live}
 use Rattle.spec_program.specs.declared.exit.Exit.{Exit}
 use Rattle.spec_program.specs.declared.file.File.{File}

@@ -21,7 +21,7 @@ ghost use Rattle.spec_program.specs.Reads.{WordsUnread};
 ghost use Rattle.spec_outside.specs.Counts.{Rose};
 ghost use Rattle.spec_program.specs.Headline.{EachOutput, IsGiven, IsGroundOf, IsScriptOf, PlanReaches, WholeOutput, ticking};
 ghost use Rattle.cli_program.specs.LawWords.{IsNotLive, RunsByTick, ShelfAnswered, UnreadLine};
-ghost use Rattle.spec_program.specs.Refused.{words_refused};
+ghost use Rattle.spec_program.specs.RefusalOutputs.{words_refused};
 
 use base_outside::Shelf;
 use expect_reader::laws::expectations_read_one_way;

@@ -5,7 +5,7 @@ use Rattle.cli_refusals.specs.declared.refusal.Refusal.{Refusal}
 use Rattle.base_texts.specs.declared.stop.Stop.{Stop}
 use Rattle.spec_program.specs.Output.{Output}
 use Rattle.cli_refusals.specs.Printing.{Printed}
-use Rattle.spec_program.specs.Refused.{words_refused, unread, too_long, tree_refused, world_refused, rules_refused, expect_refused, ground_refused, no_goal, join_refused}
+use Rattle.spec_program.specs.RefusalOutputs.{words_refused, unread, too_long, tree_refused, world_refused, rules_refused, expect_refused, ground_refused, no_goal, join_refused}
 use Rattle.spec_program.specs.declared.exit.Exit.TheVariants as exit
 use Rattle.cli_refusals.specs.declared.refusal.Refusal.TheVariants as refusal
 use Rattle.base_texts.specs.declared.stop.Stop.TheVariants as stop

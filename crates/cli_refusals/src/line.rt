@@ -2,12 +2,12 @@ ghost use Rattle.std.specs.Prelude.{◌≡◌, ◌++◌, IfOk, OnOk, codes, deci
 ghost use Rattle.spec_program.specs.Refusals.{build_words, driver_word, element_words, expect_word, expect_words, ground_words, join_words, kind_word, manifest_words, named, numbered, rules_words, script_words, tree_words, world_words};
 
 use base_texts::{Name, NoMemory};
-use spec_expect::{ExpectFault, ExpectKind};
+use spec_expect::{ExpectFault, ExpectFaultKind};
 use spec_program::TreeFault;
 use spec_run::{DriverKind, JoinFault};
 use spec_script::ScriptFault;
 use spec_tree_file::{BuildFault, ElementFault, ManifestFault, MockFault};
-use spec_world_file::{GroundFault, WorldFault, WorldKind};
+use spec_world_file::{GroundFault, WorldFault, WorldFaultKind};
 use std::alloc::Global;
 use text_lines::{put_bytes, put_number, put_quoted};
 
@@ -131,17 +131,17 @@ pub fn tree_refusal(alloc: Global, fault: &TreeFault) -> Result<Vec<u8>, NoMemor
 }
 
 /// The word for what is wrong with a world script.
-pub fn kind_word(kind: WorldKind) -> &'static [u8]
+pub fn kind_word(kind: WorldFaultKind) -> &'static [u8]
     ensures { result.now ≡ kind_word kind }
 {
     match kind {
-        WorldKind::Header => b"Header",
-        WorldKind::BadLine => b"BadLine",
-        WorldKind::Range => b"Range",
-        WorldKind::DoubleName => b"DoubleName",
-        WorldKind::NoName => b"NoName",
-        WorldKind::MomentBack => b"MomentBack",
-        WorldKind::TooMany => b"TooMany",
+        WorldFaultKind::Header => b"Header",
+        WorldFaultKind::BadLine => b"BadLine",
+        WorldFaultKind::Range => b"Range",
+        WorldFaultKind::DoubleName => b"DoubleName",
+        WorldFaultKind::NoName => b"NoName",
+        WorldFaultKind::MomentBack => b"MomentBack",
+        WorldFaultKind::TooMany => b"TooMany",
     }
 }
 
@@ -237,7 +237,7 @@ pub fn rules_refusal(alloc: Global, fault: &MockFault) -> Result<Vec<u8>, NoMemo
 }
 
 /// Puts the words of a fault of the world script that a ground file stands for.
-fn put_world_of(out: &mut Vec<u8>, line: u32, kind: WorldKind) -> Result<(), NoMemory>
+fn put_world_of(out: &mut Vec<u8>, line: u32, kind: WorldFaultKind) -> Result<(), NoMemory>
     ensures { OnOk result (out.new.items ≡ out.old.items ++ (codes "World " ++ numbered (kind_word kind) line)) }
 {
     put_bytes(out, b"World ")?;
@@ -273,17 +273,17 @@ pub fn ground_refusal(alloc: Global, fault: GroundFault) -> Result<Vec<u8>, NoMe
 }
 
 /// The word for what is wrong with a file of expectations.
-fn expect_word(kind: ExpectKind) -> &'static [u8]
+fn expect_word(kind: ExpectFaultKind) -> &'static [u8]
     ensures { result.now ≡ expect_word kind }
 {
     match kind {
-        ExpectKind::Header => b"Header",
-        ExpectKind::BadLine => b"BadLine",
-        ExpectKind::NoName => b"NoName",
-        ExpectKind::NoLeaf => b"NoLeaf",
-        ExpectKind::NoRunner => b"NoRunner",
-        ExpectKind::Range => b"Range",
-        ExpectKind::TooMany => b"TooMany",
+        ExpectFaultKind::Header => b"Header",
+        ExpectFaultKind::BadLine => b"BadLine",
+        ExpectFaultKind::NoName => b"NoName",
+        ExpectFaultKind::NoLeaf => b"NoLeaf",
+        ExpectFaultKind::NoRunner => b"NoRunner",
+        ExpectFaultKind::Range => b"Range",
+        ExpectFaultKind::TooMany => b"TooMany",
     }
 }
 

@@ -1,6 +1,6 @@
 ghost use Rattle.std.specs.Prelude.{◌≡◌, ◌≤◌};
 ghost use Rattle.cli_refusals.specs.Refusing.{IsRefused};
-ghost use Rattle.spec_program.specs.Refused.{too_long, unread};
+ghost use Rattle.spec_program.specs.RefusalOutputs.{too_long, unread};
 ghost use Rattle.cli_refusals.specs.Printing.{IsSpoken, Printed};
 ghost use Rattle.spec_program.specs.Output.{line_of};
 ghost use Rattle.spec_outside.specs.Writes.{AreLines};

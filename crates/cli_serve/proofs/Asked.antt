@@ -17,20 +17,20 @@ use Rattle.spec_serve.specs.Served.{Hears}
 use Rattle.spec_serve.specs.Talks.{Heard, LineSaid, LinesSaid, Said, finish_all, last_line, nothing_heard, ok_line, refuse}
 use Rattle.spec_session.specs.Sessions.{Sitting}
 use Rattle.spec_world.specs.declared.world.Event.{Event}
-use Rattle.spec_world_file.specs.declared.world_fault.WorldKind.{WorldKind}
+use Rattle.spec_world_file.specs.declared.world_fault.WorldFaultKind.{WorldFaultKind}
 use Rattle.spec_world_file.specs.WorldFile.{Reading}
 use Rattle.text_lines.specs.declared.stop.TextStop.TheVariants as stop
 
 -- ---- A line
 
 -- what is said to what a line reads as is said to the line
-pub reads_said : (text : List ℕ) (heard : Heard) (number : ℕ) (r : Reading) (s : Sitting) (asks : Result (Request × Reading) WorldKind) (said : Said) →
+pub reads_said : (text : List ℕ) (heard : Heard) (number : ℕ) (r : Reading) (s : Sitting) (asks : Result (Request × Reading) WorldFaultKind) (said : Said) →
     nat_lt last_line number ≡ false → RequestReads r text asks →
     LineSaid asks number s (λ left after rest. LinesSaid heard.texts heard.broken (number + 1) left after rest) said →
     LinesSaid (text ∷ heard.texts) heard.broken number r s said
 reads_said text heard number r s asks said early reads line =
     subst (λ (late : Bool). MatchBool late (said ≡ refuse request.TooMany number s)
-    ((other : Result (Request × Reading) WorldKind) × RequestReads r text other
+    ((other : Result (Request × Reading) WorldFaultKind) × RequestReads r text other
     × LineSaid other number s (λ left after rest. LinesSaid heard.texts heard.broken (number + 1) left after rest) said)) (sym early) (asks, reads, line)
 
 -- .. also what is said to what it asks
@@ -43,7 +43,7 @@ late_said : (text : List ℕ) (heard : Heard) (number : ℕ) (r : Reading) (s : 
     said ≡ refuse request.TooMany number s → LinesSaid (text ∷ heard.texts) heard.broken number r s said
 late_said text heard number r s said late is =
     subst (λ (late : Bool). MatchBool late (said ≡ refuse request.TooMany number s)
-    ((other : Result (Request × Reading) WorldKind) × RequestReads r text other
+    ((other : Result (Request × Reading) WorldFaultKind) × RequestReads r text other
     × LineSaid other number s (λ left after rest. LinesSaid heard.texts heard.broken (number + 1) left after rest) said)) (sym late) is
 
 -- a part of what is said to what a line asks is one of what is said to the line
@@ -152,7 +152,7 @@ unasked_late ahead Failed number text r rest s o took late =
           (λ said is. late_said text more.0 number r s said late is),
     )
 
-unasked_line : (ahead : Option (List ℕ)) (Failed : Type 0) (number : ℕ) (text : List ℕ) (r : Reading) (kind : WorldKind) (rest : Option (List ℕ)) (s : Sitting) (o : Out) →
+unasked_line : (ahead : Option (List ℕ)) (Failed : Type 0) (number : ℕ) (text : List ℕ) (r : Reading) (kind : WorldFaultKind) (rest : Option (List ℕ)) (s : Sitting) (o : Out) →
     TookLine ahead text rest → nat_lt last_line number ≡ false → RequestReads r text (Err kind) → Unasked ahead Failed number r (over.Refused (request.Line kind)) s o
 unasked_line ahead Failed number text r kind rest s o took early reads =
     let more = hears_some rest (Failed ⊎ ⊥) in (

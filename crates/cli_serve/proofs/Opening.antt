@@ -9,7 +9,7 @@ use Rattle.run_arena.specs.Joining.{Joins}
 use Rattle.spec_program.specs.declared.tree_fault.TreeFault.{TreeFault}
 use Rattle.spec_program.specs.declared.tree_fault.TreeFault.TheVariants as fault
 use Rattle.spec_program.specs.Output.{Output}
-use Rattle.spec_program.specs.Refused.{join_refused, tree_refused, world_refused}
+use Rattle.spec_program.specs.RefusalOutputs.{join_refused, tree_refused, world_refused}
 use Rattle.spec_program.specs.TreeFiles.{TreeReads}
 use Rattle.spec_run.specs.declared.join_fault.JoinFault.{JoinFault}
 use Rattle.spec_run.specs.Joins.{lack_of}

@@ -16,8 +16,8 @@ use Rattle.spec_tree.specs.Numbers.{is_int, number_in}
 use Rattle.spec_world.specs.declared.world.What.{What}
 use Rattle.spec_world.specs.declared.world.What.TheVariants.{Change, Halt, Tell, Tick}
 use Rattle.spec_world.specs.Worlds.{is_name, ports_told}
-use Rattle.spec_world_file.specs.declared.world_fault.WorldKind.{WorldKind}
-use Rattle.spec_world_file.specs.declared.world_fault.WorldKind.TheVariants.{BadLine, DoubleName, MomentBack, TooMany}
+use Rattle.spec_world_file.specs.declared.world_fault.WorldFaultKind.{WorldFaultKind}
+use Rattle.spec_world_file.specs.declared.world_fault.WorldFaultKind.TheVariants.{BadLine, DoubleName, MomentBack, TooMany}
 use Rattle.spec_world_file.specs.WorldFile.{AfterForm, AfterLine, AfterText, AtLine, EveryLine, FactLine, FailsLine, GateLine, GoalLine, HaltLine, Head, IsLine, Line, NameLine, NeedsLine, OutLine, Reading, ReplayLine, RunnersLine, SensedLine, SetLine, SetsLine, TellLine, TickLine, TimedByLine, TimedLine, ToldLine, WhenLine, action_line, by_outs, closed, comparison_in, condition_line, content, ends_after, event_line, every_line, fact_number, following, front_word, head_in, how_in, is_gap, is_ignored, is_line, is_line_byte, is_long, is_ms, is_runner, is_small, is_uid, line_by, line_in, name_line, named_number, number_line, numbered, out_line, outcomes_in, parts_in, ranged, repeats, replay_line, runners_of, sets_line, success_in, tell_line, telling_of, timed_line, told_line, with_event, with_moment, with_telling, word, words_in}
 
 same_bytes : (x y : List ℕ) → bytes_eq x y ≡ true → x ≡ y
@@ -158,7 +158,7 @@ unasked_line text never = if_no (list_all is_line_byte text) (line_by (word 0 te
 pub no_request : (r : Reading) (text : List ℕ) → bytes_eq (content text) (codes "finish") ≡ false → is_request_word (front_word (content text)) ≡ false →
     RequestReads r text (Err BadLine)
 no_request r text unfinished never =
-    let bad : Result (Request × Reading) WorldKind = Err BadLine in
+    let bad : Result (Request × Reading) WorldFaultKind = Err BadLine in
     subst (λ (b : Bool). MatchBool b (bad ≡ Ok (Finish, r)) (Asks r (content text) bad)) (sym unfinished)
     (record {
       said = Err BadLine;
@@ -266,7 +266,7 @@ kept_line (x ∷ xs) first others front kept =
     subst (λ (b : ℕ). is_ignored (b ∷ xs) ≡ false) (sym same) (kept xs)
 
 -- what the text of a line leaves, by what is asked
-after_request : (r : Reading) (text : List ℕ) (said : Result Reading WorldKind) → is_request_word (front_word (content text)) ≡ true →
+after_request : (r : Reading) (text : List ℕ) (said : Result Reading WorldFaultKind) → is_request_word (front_word (content text)) ≡ true →
     AfterText r text said → AfterForm r (request_line (content text)) said
 after_request r text said is_asked after =
     let b = begins (front_word (content text)) is_asked in
@@ -276,7 +276,7 @@ after_request r text said is_asked after =
     subst (λ (line : Option Line). AfterForm r line said) (sym (asked_line (content text) is_asked)) form
 
 -- what is said to the text of a line that asks something
-pub request_reads : (r : Reading) (text : List ℕ) (said : Result Reading WorldKind) (asks : Result (Request × Reading) WorldKind) →
+pub request_reads : (r : Reading) (text : List ℕ) (said : Result Reading WorldFaultKind) (asks : Result (Request × Reading) WorldFaultKind) →
     bytes_eq (content text) (codes "finish") ≡ false → is_request_word (front_word (content text)) ≡ true → AfterText r text said → asks ≡ asked said →
     RequestReads r text asks
 request_reads r text said asks unfinished is_asked after is =
@@ -285,25 +285,25 @@ request_reads r text said asks unfinished is_asked after is =
 
 pub finish_reads : (r : Reading) (text : List ℕ) → bytes_eq (content text) (codes "finish") ≡ true → RequestReads r text (Ok (Finish, r))
 finish_reads r text finished =
-    let done : Result (Request × Reading) WorldKind = Ok (Finish, r) in
+    let done : Result (Request × Reading) WorldFaultKind = Ok (Finish, r) in
     subst (λ (b : Bool). MatchBool b (done ≡ Ok (Finish, r)) (Asks r (content text) done)) (sym finished) refl
 
 -- ---- The event that a line adds
 
 -- at most one event
-abbrev HasFew : Result Reading WorldKind → Type 0
+abbrev HasFew : Result Reading WorldFaultKind → Type 0
 HasFew (Ok r) = length r.events ≤ 1
 HasFew (Err kind) = Unit {0}
 
-few_ranged : (b : Bool) (said : Result Reading WorldKind) → HasFew said → HasFew (ranged b said)
+few_ranged : (b : Bool) (said : Result Reading WorldFaultKind) → HasFew said → HasFew (ranged b said)
 few_ranged true said few = few
 few_ranged false said few = tt
 
-few_if : (b : Bool) (x y : Result Reading WorldKind) → HasFew x → HasFew y → HasFew (if b then x else y)
+few_if : (b : Bool) (x y : Result Reading WorldFaultKind) → HasFew x → HasFew y → HasFew (if b then x else y)
 few_if true x y p q = p
 few_if false x y p q = q
 
-few_numbered : (n : Option ℕ) (said : ℕ → Result Reading WorldKind) → ((k : ℕ) → HasFew (said k)) → HasFew (numbered n said)
+few_numbered : (n : Option ℕ) (said : ℕ → Result Reading WorldFaultKind) → ((k : ℕ) → HasFew (said k)) → HasFew (numbered n said)
 few_numbered None said few = tt
 few_numbered (Some k) said few = few k
 
@@ -321,16 +321,16 @@ few_none events none = subst (λ (es : List Event). length es ≤ 1) (sym none) 
 few_moment : (ms : ℕ) (r : Reading) → r.events ≡ [] → HasFew (with_moment ms r)
 few_moment ms r none = few_if (nat_lt ms r.moment) (Err MomentBack) (Ok (record r { moment = ms })) tt (few_none r.events none)
 
-few_telling : (outs : List ToldOut) (said : Result Reading WorldKind) → HasFew said → HasFew (with_telling outs said)
+few_telling : (outs : List ToldOut) (said : Result Reading WorldFaultKind) → HasFew said → HasFew (with_telling outs said)
 few_telling outs said few =
     few_if (repeats [] (ports_told outs)) (Err DoubleName) (if nat_lt most_outputs (length outs) || list_any (λ out. is_long out.value) outs then Err TooMany else said) tt
     (few_if (nat_lt most_outputs (length outs) || list_any (λ out. is_long out.value) outs) (Err TooMany) said tt few)
 
-few_outs : (outs : Option (List ToldOut)) (said : List ToldOut → Result Reading WorldKind) → ((told : List ToldOut) → HasFew (said told)) → HasFew (by_outs outs said)
+few_outs : (outs : Option (List ToldOut)) (said : List ToldOut → Result Reading WorldFaultKind) → ((told : List ToldOut) → HasFew (said told)) → HasFew (by_outs outs said)
 few_outs None said few = tt
 few_outs (Some told) said few = few told
 
-few_asked : (r : Reading) (line : Line) (said : Result Reading WorldKind) → is_request line ≡ true → r.events ≡ [] → AfterLine r line said → HasFew said
+few_asked : (r : Reading) (line : Line) (said : Result Reading WorldFaultKind) → is_request line ≡ true → r.events ≡ [] → AfterLine r line said → HasFew said
 few_asked r (AtLine ms) said is_asked none after =
     subst HasFew (sym after) (few_ranged (is_ms ms) (with_moment (nat_abs ms) (closed r)) (few_moment (nat_abs ms) (closed r) none))
 few_asked r (TickLine runner) said is_asked none after =
@@ -347,12 +347,12 @@ few_asked r (TellLine runner uid succeeds outs) said is_asked none after =
     (few_event (Tell (nat_abs runner) (nat_abs uid) (telling_of succeeds told)) (closed r) none))))
 few_asked r line said is_asked none after = absurd cc
 
-few_by : (r : Reading) (line : Line) (is_asked : Bool) (said : Result Reading WorldKind) → is_request line ≡ is_asked → r.events ≡ [] →
+few_by : (r : Reading) (line : Line) (is_asked : Bool) (said : Result Reading WorldFaultKind) → is_request line ≡ is_asked → r.events ≡ [] →
     AfterForm r (if is_asked then Some line else None) said → HasFew said
 few_by r line true said is none after = few_asked r line said is none after
 few_by r line false said is none after = subst HasFew (sym after) tt
 
-few_line : (r : Reading) (line : Option Line) (said : Result Reading WorldKind) → r.events ≡ [] → AfterForm r (only_asked line) said → HasFew said
+few_line : (r : Reading) (line : Option Line) (said : Result Reading WorldFaultKind) → r.events ≡ [] → AfterForm r (only_asked line) said → HasFew said
 few_line r None said none after = subst HasFew (sym after) tt
 few_line r (Some line) said none after = few_by r line (is_request line) said refl none after
 
@@ -363,7 +363,7 @@ events_taken all [] event few is = (refl, is)
 events_taken all (e ∷ left) event few is =
     absurd (omega (arith, few, ap length is, length-append left (event ∷ [])))
 
-abbrev asks_ok : Request → Reading → Result (Request × Reading) WorldKind
+abbrev asks_ok : Request → Reading → Result (Request × Reading) WorldFaultKind
 asks_ok request left = Ok (request, left)
 
 -- what is asked by a line that added an event, which was taken
@@ -402,7 +402,7 @@ moment_reads r after left text unfinished is_asked said old none kept =
     request_reads r text (Ok after) (Ok (At, left)) unfinished is_asked said (moment_is after left old none kept)
 
 -- .. or is no line of a world script
-pub fault_reads : (r : Reading) (text : List ℕ) (kind : WorldKind) →
+pub fault_reads : (r : Reading) (text : List ℕ) (kind : WorldFaultKind) →
     bytes_eq (content text) (codes "finish") ≡ false → is_request_word (front_word (content text)) ≡ true → AfterText r text (Err kind) → RequestReads r text (Err kind)
 fault_reads r text kind unfinished is_asked said = request_reads r text (Err kind) (Err kind) unfinished is_asked said refl
 

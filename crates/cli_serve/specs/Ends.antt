@@ -11,7 +11,7 @@ use Rattle.spec_program.specs.Answered.{AreWithin}
 use Rattle.spec_program.specs.Files.{Contents}
 use Rattle.spec_program.specs.Output.{Output}
 use Rattle.spec_program.specs.Reads.{AllRead, AreRead, Reading, ReadsEnd, StoppedAt, in_order}
-use Rattle.spec_program.specs.Refused.{too_long, unread}
+use Rattle.spec_program.specs.RefusalOutputs.{too_long, unread}
 use Rattle.spec_program.specs.Words.{Served}
 use Rattle.spec_serve.specs.Served.{FilesSaid, IsServed, ServeSaid, files_of, output_of}
 use Rattle.spec_serve.specs.Talks.{Heard, Said}

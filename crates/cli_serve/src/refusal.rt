@@ -8,7 +8,7 @@ use base_texts::NoMemory;
 use cli_refusals::kind_word;
 use spec_serve::RequestFault;
 use spec_session::Misuse;
-use spec_world_file::WorldKind;
+use spec_world_file::WorldFaultKind;
 use std::alloc::Global;
 use text_lines::{TextStop, empty_line, put_bytes, put_number, write_line};
 
@@ -20,10 +20,10 @@ pub fn misuse_fault(misuse: Misuse) -> RequestFault
         Misuse::NoRunner => RequestFault::NoRunner,
         Misuse::NoLeaf => RequestFault::NoLeaf,
         Misuse::NoOutput => RequestFault::NoOutput,
-        Misuse::MomentBack => RequestFault::Line(WorldKind::MomentBack),
-        Misuse::MomentLate => RequestFault::Line(WorldKind::Range),
-        Misuse::NoFact => RequestFault::Line(WorldKind::NoName),
-        Misuse::BadTelling => RequestFault::Line(WorldKind::TooMany),
+        Misuse::MomentBack => RequestFault::Line(WorldFaultKind::MomentBack),
+        Misuse::MomentLate => RequestFault::Line(WorldFaultKind::Range),
+        Misuse::NoFact => RequestFault::Line(WorldFaultKind::NoName),
+        Misuse::BadTelling => RequestFault::Line(WorldFaultKind::TooMany),
         Misuse::Over | Misuse::NoEvent => RequestFault::End,
     }
 }

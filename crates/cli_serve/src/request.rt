@@ -4,7 +4,7 @@ ghost use Rattle.spec_serve.specs.Requests.{RequestReads};
 
 use base_texts::Stop;
 use spec_serve::Request;
-use spec_world_file::WorldKind;
+use spec_world_file::WorldFaultKind;
 use std::alloc::Global;
 use world_draft::Reading;
 use world_lines::{content, cut, is};
@@ -22,7 +22,7 @@ pub fn read_request(
     alloc: Global,
     reading: &mut Reading,
     text: &[u8],
-) -> Result<Request, Stop<WorldKind>>
+) -> Result<Request, Stop<WorldFaultKind>>
     requires { reading.old.events ≡ [] }
     ensures reads { Asks result reading.new (RequestReads reading.old text.now) }
     ensures taken { OnOk result (reading.new.events ≡ []) }
@@ -33,7 +33,7 @@ pub fn read_request(
     }
     let (word, _) = cut(line);
     if !is_request(word) {
-        return Err(Stop::Fault(WorldKind::BadLine));
+        return Err(Stop::Fault(WorldFaultKind::BadLine));
     }
     read_text(alloc, reading, text)?;
     match reading.take_event() {

@@ -18,7 +18,7 @@ use spec_program::TreeFault;
 use spec_tree::{Kind, Port, Term, Tree};
 use spec_tree_file::{Element, Elements};
 use spec_world::{Row, RowSort, World};
-use spec_world_file::{WorldFault, WorldKind};
+use spec_world_file::{WorldFault, WorldFaultKind};
 use std::alloc::Global;
 use std::cmp::Ordering;
 use std::marker::Model;
@@ -341,7 +341,7 @@ fn too_many() -> Refusal
 {
     Refusal::World(WorldFault {
         line: 0,
-        kind: WorldKind::TooMany,
+        kind: WorldFaultKind::TooMany,
     })
 }
 

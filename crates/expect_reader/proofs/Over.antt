@@ -11,8 +11,8 @@ use Rattle.spec_world.specs.declared.world.World.{World}
 use Rattle.spec_world.specs.Worlds.{IsExprOver, names_of_facts}
 use Rattle.spec_world_file.specs.WorldFile.{ReadsNumeric, content, is_ignored, is_ms, knows_all, lines_in, without_return}
 use Rattle.spec_expect.specs.declared.expect_fault.ExpectFault.{ExpectFault}
-use Rattle.spec_expect.specs.declared.expect_fault.ExpectKind.{ExpectKind}
-use Rattle.spec_expect.specs.declared.expect_fault.ExpectKind.TheVariants.{Header, NoName, Range, TooMany}
+use Rattle.spec_expect.specs.declared.expect_fault.ExpectFaultKind.{ExpectFaultKind}
+use Rattle.spec_expect.specs.declared.expect_fault.ExpectFaultKind.TheVariants.{Header, NoName, Range, TooMany}
 use Rattle.spec_expect.specs.declared.expectation.Expectation.{Expectation}
 use Rattle.spec_expect.specs.declared.expectation.Expected.{Expected}
 use Rattle.spec_expect.specs.ExpectFile.{AfterContent, AfterForm, AfterLines, AlwaysLine, AtLine, ByLine, EndsLine, FormSays, GoesOn, Line, LinesRead, NeverAnswersLine, NeverWithLine, OrderLine, ReadsExpected, Says, SaysOf, StartsLine, StartsOnlyLine, Subject, by_expr, leaves_in, line_in, moment_of, over_facts, runner_in, subject_of, with_expected}
@@ -21,33 +21,33 @@ use Rattle.world_reader.proofs.AboutUnique.Sound.{ms_most, valid_expr}
 
 -- ---- One line
 
-abbrev Over : List Fact → Result Expectation ExpectKind → Type 0
+abbrev Over : List Fact → Result Expectation ExpectFaultKind → Type 0
 Over facts (Ok e) = IsOver facts e
 Over facts (Err kind) = Unit {0}
 
-over_then : {A : Type 0} (facts : List Fact) (first : Result A ExpectKind) (rest : A → Result Expectation ExpectKind) → ((a : A) → first ≡ Ok a → Over facts (rest a)) → Over facts (first >>= rest)
+over_then : {A : Type 0} (facts : List Fact) (first : Result A ExpectFaultKind) (rest : A → Result Expectation ExpectFaultKind) → ((a : A) → first ≡ Ok a → Over facts (rest a)) → Over facts (first >>= rest)
 over_then facts (Ok a) rest over = over a refl
 over_then facts (Err kind) rest over = tt
 
 known_expr : (text : List ℕ) (facts : List Fact) (e known : Expr) → ReadsNumeric text (Some e) → over_facts facts e ≡ Ok known → IsExprOver [] (names_of_facts facts) known
 known_expr text facts e known reads is = by_test (knows_all [] facts e) refl is where
-  by_test : (b : Bool) → knows_all [] facts e ≡ b → (let r : Result Expr ExpectKind = cond b (Ok e) (Err NoName) in r ≡ Ok known) → IsExprOver [] (names_of_facts facts) known
+  by_test : (b : Bool) → knows_all [] facts e ≡ b → (let r : Result Expr ExpectFaultKind = cond b (Ok e) (Err NoName) in r ≡ Ok known) → IsExprOver [] (names_of_facts facts) known
   by_test true knows same = let e_is : e ≡ known = cc in subst (IsExprOver [] (names_of_facts facts)) e_is (valid_expr text [] facts e reads knows)
   by_test false knows same = cc
 
 small_count : (z : ℤ) (n : ℕ) → moment_of z ≡ Ok n → n ≤ last_moment
 small_count z n is = by_test (is_ms z) refl is where
-  by_test : (b : Bool) → is_ms z ≡ b → (let r : Result ℕ ExpectKind = cond b (Ok (nat_abs z)) (Err Range) in r ≡ Ok n) → n ≤ last_moment
+  by_test : (b : Bool) → is_ms z ≡ b → (let r : Result ℕ ExpectFaultKind = cond b (Ok (nat_abs z)) (Err Range) in r ≡ Ok n) → n ≤ last_moment
   by_test true within same = let n_is : nat_abs z ≡ n = cc in subst (λ (k : ℕ). k ≤ last_moment) n_is (ms_most z within)
   by_test false within same = cc
 
-over_said : (facts : List Fact) (text : List ℕ) (rule : Expr → Result Expectation ExpectKind) (said : Result Expectation ExpectKind) → SaysOf text rule said → ((e : Expr) → ReadsNumeric text (Some e) → Over facts (rule e)) → Over facts said
+over_said : (facts : List Fact) (text : List ℕ) (rule : Expr → Result Expectation ExpectFaultKind) (said : Result Expectation ExpectFaultKind) → SaysOf text rule said → ((e : Expr) → ReadsNumeric text (Some e) → Over facts (rule e)) → Over facts said
 over_said facts text rule said h over = subst (Over facts) (sym h.is) (by_expr_read h.expr h.reads) where
   by_expr_read : (o : Option Expr) → ReadsNumeric text o → Over facts (by_expr o rule)
   by_expr_read None reads = tt
   by_expr_read (Some e) reads = over e reads
 
-over_line : (s : Subject) (line : Line) (said : Result Expectation ExpectKind) → Says s line said → Over s.facts said
+over_line : (s : Subject) (line : Line) (said : Result Expectation ExpectFaultKind) → Says s line said → Over s.facts said
 over_line s (AlwaysLine expr) said h = over_said s.facts expr _ said h
     (λ e reads. over_then s.facts (over_facts s.facts e) _ (λ known is. known_expr expr s.facts e known reads is))
 over_line s (AtLine ms expr) said h = over_said s.facts expr _ said h
@@ -66,7 +66,7 @@ over_line s (NeverWithLine first second) said h =
 over_line s (OrderLine first second) said h =
     subst (Over s.facts) (sym h) (over_then s.facts (leaves_in s.places first) _ (λ a found. over_then s.facts (leaves_in s.places second) _ (λ b is. tt)))
 
-over_form : (s : Subject) (o : Option Line) (said : Result Expectation ExpectKind) → FormSays s o said → Over s.facts said
+over_form : (s : Subject) (o : Option Line) (said : Result Expectation ExpectFaultKind) → FormSays s o said → Over s.facts said
 over_form s None said h = subst (Over s.facts) (sym h) tt
 over_form s (Some line) said h = over_line s line said h
 
@@ -76,14 +76,14 @@ abbrev pub AllOver : {F : Type 0} → List Fact → Result (List Expected) F →
 AllOver facts (Ok expected) = AreOver facts expected
 AllOver facts (Err fault) = Unit {0}
 
-added_over : (facts : List Fact) (before : List Expected) (line : ℕ) (said : Result Expectation ExpectKind) → AreOver facts before → Over facts said → AllOver facts (said >>= with_expected before line)
+added_over : (facts : List Fact) (before : List Expected) (line : ℕ) (said : Result Expectation ExpectFaultKind) → AreOver facts before → Over facts said → AllOver facts (said >>= with_expected before line)
 added_over facts before line (Err kind) all one = tt
 added_over facts before line (Ok e) all one = by_room (nat_le 1000 (length before)) where
-  by_room : (b : Bool) → (let r : Result (List Expected) ExpectKind = cond b (Err TooMany) (Ok (before ++ record { line = line; expectation = e } ∷ [])) in AllOver facts r)
+  by_room : (b : Bool) → (let r : Result (List Expected) ExpectFaultKind = cond b (Err TooMany) (Ok (before ++ record { line = line; expectation = e } ∷ [])) in AllOver facts r)
   by_room true = tt
   by_room false = All-push (λ (x : Expected). IsOver facts x.expectation) before (record { line = line; expectation = e }) all one
 
-content_over : (s : Subject) (before : List Expected) (line : ℕ) (text : List ℕ) (after : Result (List Expected) ExpectKind) → AreOver s.facts before → AfterContent s before line text after → AllOver s.facts after
+content_over : (s : Subject) (before : List Expected) (line : ℕ) (text : List ℕ) (after : Result (List Expected) ExpectFaultKind) → AreOver s.facts before → AfterContent s before line text after → AllOver s.facts after
 content_over s before line text after all = by_ignored (is_ignored text) where
   by_ignored : (b : Bool) → MatchBool b (after ≡ Ok before) (AfterForm s before line text after) → AllOver s.facts after
   by_ignored true is = subst (AllOver s.facts) (sym is) all
@@ -93,7 +93,7 @@ lines_over : (s : Subject) (line : ℕ) (texts : List (List ℕ)) (before : List
 lines_over s line [] before read all is = subst (AllOver s.facts) (sym is) all
 lines_over s line (text ∷ texts) before read all h =
     by_after (λ left over goes. lines_over s (line + 1) texts left read over goes) h.0 (content_over s before line (content text) h.0 all h.1) h.2 where
-      by_after : ((left : List Expected) → AreOver s.facts left → AfterLines s (line + 1) texts left read → AllOver s.facts read) → (after : Result (List Expected) ExpectKind) → AllOver s.facts after
+      by_after : ((left : List Expected) → AreOver s.facts left → AfterLines s (line + 1) texts left read → AllOver s.facts read) → (after : Result (List Expected) ExpectFaultKind) → AllOver s.facts after
           → GoesOn line (λ left. AfterLines s (line + 1) texts left read) read after → AllOver s.facts read
       by_after again (Ok left) over goes = again left over goes
       by_after again (Err kind) over goes = subst (AllOver s.facts) (sym goes) tt

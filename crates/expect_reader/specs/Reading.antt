@@ -5,8 +5,8 @@ use Rattle.base_texts.specs.declared.stop.Stop.TheVariants as stop
 use Rattle.spec_script.specs.declared.syntax.Expr.{Expr}
 use Rattle.spec_world_file.specs.WorldFile.{ReadsNumeric, following, word}
 use Rattle.spec_expect.specs.declared.expect_fault.ExpectFault.{ExpectFault}
-use Rattle.spec_expect.specs.declared.expect_fault.ExpectKind.{ExpectKind}
-use Rattle.spec_expect.specs.declared.expect_fault.ExpectKind.TheVariants.{BadLine}
+use Rattle.spec_expect.specs.declared.expect_fault.ExpectFaultKind.{ExpectFaultKind}
+use Rattle.spec_expect.specs.declared.expect_fault.ExpectFaultKind.TheVariants.{BadLine}
 use Rattle.spec_expect.specs.declared.place.Pick.{Pick}
 use Rattle.spec_expect.specs.ExpectFile as file
 use Rattle.spec_expect.specs.declared.expectation.Expected.{Expected}
@@ -28,21 +28,21 @@ abbrev pub GivesItems : {X F : Type 0} → Result X (Stop F) → (Result X F →
 GivesItems = GivesSaid
 
 -- the expression that a text is, or none
-abbrev pub ReadsAs : List ℕ → Result Expr (Stop ExpectKind) → Type 0
+abbrev pub ReadsAs : List ℕ → Result Expr (Stop ExpectFaultKind) → Type 0
 ReadsAs text (Ok e) = ReadsNumeric text (Some e)
 ReadsAs text (Err stop.NoMemory) = Unit {0}
 ReadsAs text (Err (stop.Fault BadLine)) = ReadsNumeric text None
 ReadsAs text (Err (stop.Fault _)) = ⊥
 
 -- the fault of a line, with its number
-abbrev pub located : Stop ExpectKind → ℕ → Stop ExpectFault
+abbrev pub located : Stop ExpectFaultKind → ℕ → Stop ExpectFault
 located stop.NoMemory line = stop.NoMemory
 located (stop.Fault kind) line = stop.Fault (record { line = line; kind = kind })
 
 -- ---- Leaves that a line tells
 
 -- a fault is `BadLine`, where this holds
-abbrev pub IsBadLine : Type 0 → Stop ExpectKind → Type 0
+abbrev pub IsBadLine : Type 0 → Stop ExpectFaultKind → Type 0
 IsBadLine Holds stop.NoMemory = Unit {0}
 IsBadLine Holds (stop.Fault kind) = (kind ≡ BadLine) × Holds
 

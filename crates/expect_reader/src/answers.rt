@@ -5,7 +5,7 @@ ghost use Rattle.spec_tree.specs.Numbers as numbers;
 ghost use Rattle.spec_expect.specs.ExpectFile.{answer_in, end_in, moment_of, runner_in};
 
 use base_texts::Stop;
-use spec_expect::ExpectKind;
+use spec_expect::ExpectFaultKind;
 use spec_run::Answer;
 use world_lines::{is, ms, one_of};
 
@@ -40,23 +40,23 @@ pub fn end_in(word: &[u8]) -> Option<Answer>
 }
 
 /// The moment in milliseconds, or the count in the same range, that a word writes. The fault is `Range`.
-pub fn moment_of(word: &[u8]) -> Result<u64, Stop<ExpectKind>>
+pub fn moment_of(word: &[u8]) -> Result<u64, Stop<ExpectFaultKind>>
     requires { numbers.is_canonical word.now ≡ true }
     ensures { Gives result (moment_of (signed_digits_value 10 word.now)) }
 {
     match ms(word) {
         Some(moment) => Ok(moment),
-        None => Err(Stop::Fault(ExpectKind::Range)),
+        None => Err(Stop::Fault(ExpectFaultKind::Range)),
     }
 }
 
 /// The number of a runner that a word writes. The fault is `NoRunner`.
-pub fn runner_in(runners: u8, word: &[u8]) -> Result<u8, Stop<ExpectKind>>
+pub fn runner_in(runners: u8, word: &[u8]) -> Result<u8, Stop<ExpectFaultKind>>
     requires { numbers.is_canonical word.now ≡ true }
     ensures { Gives result (runner_in runners (signed_digits_value 10 word.now)) }
 {
     match one_of(word, runners) {
         Some(runner) => Ok(runner),
-        None => Err(Stop::Fault(ExpectKind::NoRunner)),
+        None => Err(Stop::Fault(ExpectFaultKind::NoRunner)),
     }
 }

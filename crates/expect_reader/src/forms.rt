@@ -11,7 +11,7 @@ use crate::picks::pick_at_front;
 use crate::subject::{Subject, knows_all};
 use base_tables::is_canonical;
 use base_texts::Stop;
-use spec_expect::{ExpectKind, Expectation, Pick};
+use spec_expect::{ExpectFaultKind, Expectation, Pick};
 use spec_script::Expr;
 use spec_world::Fact;
 use std::alloc::Global;
@@ -19,24 +19,24 @@ use world_lines::{cut, is, is_line, numeric};
 use world_reader::comparison;
 
 /// The expression that a text is. The fault is `BadLine`, where it is none.
-fn expression(alloc: Global, text: &[u8]) -> Result<Expr, Stop<ExpectKind>>
+fn expression(alloc: Global, text: &[u8]) -> Result<Expr, Stop<ExpectFaultKind>>
     requires { list_all is_line_byte text.now ≡ true }
     ensures { ReadsAs text.now result }
 {
     match numeric(alloc, text)? {
         Some(expr) => Ok(expr),
-        None => Err(Stop::Fault(ExpectKind::BadLine)),
+        None => Err(Stop::Fault(ExpectFaultKind::BadLine)),
     }
 }
 
 /// An expression that names facts alone. The fault is `NoName`.
-fn over_facts(facts: &[Fact], expr: Expr) -> Result<Expr, Stop<ExpectKind>>
+fn over_facts(facts: &[Fact], expr: Expr) -> Result<Expr, Stop<ExpectFaultKind>>
     ensures { Gives result (over_facts facts.now expr) }
 {
     if knows_all(facts, &expr) {
         Ok(expr)
     } else {
-        Err(Stop::Fault(ExpectKind::NoName))
+        Err(Stop::Fault(ExpectFaultKind::NoName))
     }
 }
 
@@ -45,7 +45,7 @@ fn read_always(
     alloc: Global,
     subject: &Subject,
     text: &[u8],
-) -> Result<Expectation, Stop<ExpectKind>>
+) -> Result<Expectation, Stop<ExpectFaultKind>>
     requires { list_all is_line_byte text.now ≡ true }
     ensures { GivesSaid result (Says (subject_seen subject.now) (AlwaysLine text.now)) }
 {
@@ -54,13 +54,17 @@ fn read_always(
 }
 
 /// Reads `at MS EXPR`.
-fn read_at(alloc: Global, subject: &Subject, text: &[u8]) -> Result<Expectation, Stop<ExpectKind>>
+fn read_at(
+    alloc: Global,
+    subject: &Subject,
+    text: &[u8],
+) -> Result<Expectation, Stop<ExpectFaultKind>>
     requires { list_all is_line_byte text.now ≡ true }
     ensures { GivesSaid result (FormSays (subject_seen subject.now) (at_line text.now)) }
 {
     let (number, rest) = cut(text);
     if !is_canonical(number) {
-        return Err(Stop::Fault(ExpectKind::BadLine));
+        return Err(Stop::Fault(ExpectFaultKind::BadLine));
     }
     let expr = expression(alloc, rest)?;
     let ms = moment_of(number)?;
@@ -69,7 +73,7 @@ fn read_at(alloc: Global, subject: &Subject, text: &[u8]) -> Result<Expectation,
 }
 
 /// Reads `by MS root R STATUS`.
-fn read_by(subject: &Subject, text: &[u8]) -> Result<Expectation, Stop<ExpectKind>>
+fn read_by(subject: &Subject, text: &[u8]) -> Result<Expectation, Stop<ExpectFaultKind>>
     ensures { GivesSaid result (FormSays (subject_seen subject.now) (by_line text.now)) }
 {
     let (number, rest) = cut(text);
@@ -77,10 +81,10 @@ fn read_by(subject: &Subject, text: &[u8]) -> Result<Expectation, Stop<ExpectKin
     let (runner, rest) = cut(rest);
     let (answer, rest) = cut(rest);
     if !is_canonical(number) || !is(root, "root") || !is_canonical(runner) || !rest.is_empty() {
-        return Err(Stop::Fault(ExpectKind::BadLine));
+        return Err(Stop::Fault(ExpectFaultKind::BadLine));
     }
     let Some(answer) = answer_in(answer) else {
-        return Err(Stop::Fault(ExpectKind::BadLine));
+        return Err(Stop::Fault(ExpectFaultKind::BadLine));
     };
     let ms = moment_of(number)?;
     let runner = runner_in(subject.runners, runner)?;
@@ -88,17 +92,17 @@ fn read_by(subject: &Subject, text: &[u8]) -> Result<Expectation, Stop<ExpectKin
 }
 
 /// Reads `root R never STATUS`.
-fn read_root(subject: &Subject, text: &[u8]) -> Result<Expectation, Stop<ExpectKind>>
+fn read_root(subject: &Subject, text: &[u8]) -> Result<Expectation, Stop<ExpectFaultKind>>
     ensures { GivesSaid result (FormSays (subject_seen subject.now) (root_line text.now)) }
 {
     let (runner, rest) = cut(text);
     let (never, rest) = cut(rest);
     let (answer, rest) = cut(rest);
     if !is_canonical(runner) || !is(never, "never") || !rest.is_empty() {
-        return Err(Stop::Fault(ExpectKind::BadLine));
+        return Err(Stop::Fault(ExpectFaultKind::BadLine));
     }
     let Some(answer) = answer_in(answer) else {
-        return Err(Stop::Fault(ExpectKind::BadLine));
+        return Err(Stop::Fault(ExpectFaultKind::BadLine));
     };
     let runner = runner_in(subject.runners, runner)?;
     Ok(Expectation::NeverAnswers { runner, answer })
@@ -110,13 +114,13 @@ fn read_only(
     subject: &Subject,
     pick: &Pick,
     text: &[u8],
-) -> Result<Expectation, Stop<ExpectKind>>
+) -> Result<Expectation, Stop<ExpectFaultKind>>
     requires { list_all is_line_byte text.now ≡ true }
     ensures { GivesSaid result (FormSays (subject_seen subject.now) (only_line (pick.now, text.now))) }
 {
     let (only, rest) = cut(text);
     if !is(only, "only") {
-        return Err(Stop::Fault(ExpectKind::BadLine));
+        return Err(Stop::Fault(ExpectFaultKind::BadLine));
     }
     let expr = expression(alloc, rest)?;
     let leaves = leaves_in(alloc, subject.places, pick)?;
@@ -130,16 +134,16 @@ fn read_count(
     subject: &Subject,
     pick: &Pick,
     text: &[u8],
-) -> Result<Expectation, Stop<ExpectKind>>
+) -> Result<Expectation, Stop<ExpectFaultKind>>
     ensures { GivesSaid result (FormSays (subject_seen subject.now) (count_line (pick.now, text.now))) }
 {
     let (op, rest) = cut(text);
     let (number, rest) = cut(rest);
     if !is_canonical(number) || !rest.is_empty() {
-        return Err(Stop::Fault(ExpectKind::BadLine));
+        return Err(Stop::Fault(ExpectFaultKind::BadLine));
     }
     let Some(op) = comparison(op) else {
-        return Err(Stop::Fault(ExpectKind::BadLine));
+        return Err(Stop::Fault(ExpectFaultKind::BadLine));
     };
     let leaves = leaves_in(alloc, subject.places, pick)?;
     let count = moment_of(number)?;
@@ -152,17 +156,17 @@ fn read_ends(
     subject: &Subject,
     pick: &Pick,
     text: &[u8],
-) -> Result<Expectation, Stop<ExpectKind>>
+) -> Result<Expectation, Stop<ExpectFaultKind>>
     ensures { GivesSaid result (FormSays (subject_seen subject.now) (ends_line (pick.now, text.now))) }
 {
     let (answer, rest) = cut(text);
     let (by, rest) = cut(rest);
     let (number, rest) = cut(rest);
     if !is_canonical(number) || !is(by, "by") || !rest.is_empty() {
-        return Err(Stop::Fault(ExpectKind::BadLine));
+        return Err(Stop::Fault(ExpectFaultKind::BadLine));
     }
     let Some(answer) = end_in(answer) else {
-        return Err(Stop::Fault(ExpectKind::BadLine));
+        return Err(Stop::Fault(ExpectFaultKind::BadLine));
     };
     let leaves = leaves_in(alloc, subject.places, pick)?;
     let ms = moment_of(number)?;
@@ -170,30 +174,30 @@ fn read_ends(
 }
 
 /// The leaves at the front of a text, and what follows. The fault is `BadLine`, where there are none.
-fn front_pick(alloc: Global, text: &[u8]) -> Result<(Pick, &[u8]), Stop<ExpectKind>>
+fn front_pick(alloc: Global, text: &[u8]) -> Result<(Pick, &[u8]), Stop<ExpectFaultKind>>
     ensures front { IfOk result (λ found. pick_at_front text.now ≡ Some (found.0, found.1.now)) }
     ensures none { IfErr result (IsBadLine (pick_at_front text.now ≡ None)) }
 {
     match pick_at_front(alloc, text)? {
         Some(found) => Ok(found),
-        None => Err(Stop::Fault(ExpectKind::BadLine)),
+        None => Err(Stop::Fault(ExpectFaultKind::BadLine)),
     }
 }
 
 /// The leaves that follow this word, after which nothing follows.
-fn last_pick(alloc: Global, between: &str, text: &[u8]) -> Result<Pick, Stop<ExpectKind>>
+fn last_pick(alloc: Global, between: &str, text: &[u8]) -> Result<Pick, Stop<ExpectFaultKind>>
     ensures last { IfOk result (λ pick. last_after between.now text.now ≡ Some pick) }
     ensures none { IfErr result (IsBadLine (last_after between.now text.now ≡ None)) }
 {
     let (word, rest) = cut(text);
     if !is(word, between) {
-        return Err(Stop::Fault(ExpectKind::BadLine));
+        return Err(Stop::Fault(ExpectFaultKind::BadLine));
     }
     let (pick, rest) = front_pick(alloc, rest)?;
     if rest.is_empty() {
         Ok(pick)
     } else {
-        Err(Stop::Fault(ExpectKind::BadLine))
+        Err(Stop::Fault(ExpectFaultKind::BadLine))
     }
 }
 
@@ -203,7 +207,7 @@ fn read_never(
     subject: &Subject,
     pick: &Pick,
     text: &[u8],
-) -> Result<Expectation, Stop<ExpectKind>>
+) -> Result<Expectation, Stop<ExpectFaultKind>>
     ensures { GivesSaid result (FormSays (subject_seen subject.now) (then_pick (codes "with") NeverWithLine (pick.now, text.now))) }
 {
     let other = last_pick(alloc, "with", text)?;
@@ -218,7 +222,7 @@ fn read_order(
     subject: &Subject,
     pick: &Pick,
     text: &[u8],
-) -> Result<Expectation, Stop<ExpectKind>>
+) -> Result<Expectation, Stop<ExpectFaultKind>>
     ensures { GivesSaid result (FormSays (subject_seen subject.now) (then_pick (codes "before") OrderLine (pick.now, text.now))) }
 {
     let other = last_pick(alloc, "before", text)?;
@@ -233,7 +237,7 @@ fn read_leaves(
     subject: &Subject,
     kind: &[u8],
     text: &[u8],
-) -> Result<Expectation, Stop<ExpectKind>>
+) -> Result<Expectation, Stop<ExpectFaultKind>>
     requires { list_all is_line_byte text.now ≡ true }
     ensures { GivesSaid result (FormSays (subject_seen subject.now) (leaves_line kind.now text.now)) }
 {
@@ -249,7 +253,7 @@ fn read_leaves(
     } else if is(kind, "order") {
         read_order(alloc, subject, &pick, rest)
     } else {
-        Err(Stop::Fault(ExpectKind::BadLine))
+        Err(Stop::Fault(ExpectFaultKind::BadLine))
     }
 }
 
@@ -259,7 +263,7 @@ fn read_by_word(
     subject: &Subject,
     kind: &[u8],
     text: &[u8],
-) -> Result<Expectation, Stop<ExpectKind>>
+) -> Result<Expectation, Stop<ExpectFaultKind>>
     requires { list_all is_line_byte text.now ≡ true }
     ensures { GivesSaid result (FormSays (subject_seen subject.now) (line_by kind.now text.now)) }
 {
@@ -282,11 +286,11 @@ pub fn read_content(
     alloc: Global,
     subject: &Subject,
     text: &[u8],
-) -> Result<Expectation, Stop<ExpectKind>>
+) -> Result<Expectation, Stop<ExpectFaultKind>>
     ensures { GivesSaid result (FormSays (subject_seen subject.now) (line_in text.now)) }
 {
     if !is_line(text) {
-        return Err(Stop::Fault(ExpectKind::BadLine));
+        return Err(Stop::Fault(ExpectFaultKind::BadLine));
     }
     let (kind, rest) = cut(text);
     read_by_word(alloc, subject, kind, rest)

@@ -5,7 +5,7 @@ ghost use Rattle.spec_expect.specs.ExpectFile.{leaves_in};
 ghost use Rattle.spec_expect.specs.Leaves.{is_picked, is_picked_so, marks_of};
 
 use base_texts::{Items, NoMemory, Stop};
-use spec_expect::{ExpectKind, Pick, Place};
+use spec_expect::{ExpectFaultKind, Pick, Place};
 use spec_tree::Kind;
 use std::alloc::Global;
 use tree_mock::is_match;
@@ -55,13 +55,13 @@ pub fn leaves_in(
     alloc: Global,
     places: &[Place],
     pick: &Pick,
-) -> Result<Items<bool>, Stop<ExpectKind>>
+) -> Result<Items<bool>, Stop<ExpectFaultKind>>
     ensures { Gives result (leaves_in places.now pick.now) }
 {
     let marks = marks_of(alloc, pick, places)?;
     if is_some_marked(marks.as_slice()) {
         Ok(Items::of(marks))
     } else {
-        Err(Stop::Fault(ExpectKind::NoLeaf))
+        Err(Stop::Fault(ExpectFaultKind::NoLeaf))
     }
 }

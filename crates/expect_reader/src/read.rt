@@ -8,7 +8,7 @@ use crate::forms::read_content;
 use crate::places::places_of;
 use crate::subject::{Subject, subject_of};
 use base_texts::{Items, Stop};
-use spec_expect::{ExpectFault, ExpectKind, Expected};
+use spec_expect::{ExpectFault, ExpectFaultKind, Expected};
 use spec_tree::Tree;
 use spec_world::World;
 use std::alloc::Global;
@@ -24,7 +24,7 @@ fn read_line(
     line: u32,
     text: &[u8],
     expected: &mut Vec<Expected>,
-) -> Result<(), Stop<ExpectKind>>
+) -> Result<(), Stop<ExpectFaultKind>>
     ensures { Leaves result expected.new.items (AfterContent (subject_seen subject.now) expected.old.items line text.now) }
 {
     if is_ignored(text) {
@@ -32,14 +32,14 @@ fn read_line(
     }
     let expectation = read_content(alloc, subject, text)?;
     if expected.len() >= MOST_EXPECTATIONS {
-        return Err(Stop::Fault(ExpectKind::TooMany));
+        return Err(Stop::Fault(ExpectFaultKind::TooMany));
     }
     expected.push(Expected { line, expectation })?;
     Ok(())
 }
 
 /// What is wrong with a line, with its number.
-fn located(stop: Stop<ExpectKind>, line: u32) -> Stop<ExpectFault>
+fn located(stop: Stop<ExpectFaultKind>, line: u32) -> Stop<ExpectFault>
     ensures { result ≡ located stop line }
 {
     match stop {
@@ -86,7 +86,7 @@ fn read_file(
         }
         _ => Err(Stop::Fault(ExpectFault {
             line: 1,
-            kind: ExpectKind::Header,
+            kind: ExpectFaultKind::Header,
         })),
     }
 }

@@ -4,8 +4,8 @@ use Rattle.spec_run.specs.declared.block.Header.{Header}
 use Rattle.spec_run.specs.declared.block.Header.TheVariants as header
 use Rattle.spec_run.specs.declared.fault.Cause.{Cause}
 use Rattle.spec_run.specs.declared.fault.Cause.TheVariants as cause
-use Rattle.spec_run.specs.declared.fault.PortId.{PortId}
-use Rattle.spec_run.specs.declared.fault.PortId.TheVariants as port
+use Rattle.spec_run.specs.declared.fault.NumericPort.{NumericPort}
+use Rattle.spec_run.specs.declared.fault.NumericPort.TheVariants as port
 use Rattle.spec_run.specs.declared.note.Note.{Note}
 use Rattle.spec_run.specs.declared.note.Note.TheVariants as note
 use Rattle.spec_script.specs.declared.value.Value.{Value}
@@ -15,7 +15,7 @@ use Rattle.host_library.specs.declared.notes.FactTold.{FactTold}
 use Rattle.host_library.specs.declared.notes.NoteTold.{NoteTold}
 use Rattle.host_library.specs.Numbers.{answer_number, no_status, status_number}
 
-abbrev pub port_number : PortId → ℕ
+abbrev pub port_number : NumericPort → ℕ
 port_number port.SuccessCount = 1
 port_number port.FailureCount = 2
 port_number port.NumAttempts = 3

@@ -11,7 +11,7 @@ use Rattle.cli_serve.specs.Rows.{MadeOf}
 use Rattle.spec_program.specs.declared.file.File.TheVariants as file
 use Rattle.spec_program.specs.declared.tree_fault.TreeFault.{TreeFault}
 use Rattle.spec_program.specs.Output.{Output}
-use Rattle.spec_program.specs.Refused.{join_refused, too_long, tree_refused, world_refused}
+use Rattle.spec_program.specs.RefusalOutputs.{join_refused, too_long, tree_refused, world_refused}
 use Rattle.spec_program.specs.Gives.{is_too_long}
 use Rattle.spec_program.specs.TreeFiles.{TreeReads}
 use Rattle.spec_session.specs.declared.open_fault.OpenFault.{OpenFault}

@@ -10,7 +10,7 @@ use crate::hosted::Hosted;
 use crate::text::copy_text;
 use base_outside::SureSink;
 use base_texts::NoMemory;
-use spec_run::{Cause, Header, Note, PortId};
+use spec_run::{Cause, Header, Note, NumericPort};
 use std::alloc::Global;
 use text_lines::{TextStop, names_of, write_block};
 
@@ -67,19 +67,19 @@ pub struct EntryTold {
 }
 
 /// The number of a port.
-fn port_number(port: PortId) -> u32
+fn port_number(port: NumericPort) -> u32
     ensures { result ≡ told.port_number port }
 {
     match port {
-        PortId::SuccessCount => 1,
-        PortId::FailureCount => 2,
-        PortId::NumAttempts => 3,
-        PortId::NumCycles => 4,
-        PortId::Msec => 5,
-        PortId::DelayMsec => 6,
-        PortId::ThenSkip => 7,
-        PortId::NumberOfRetries => 8,
-        PortId::Hz => 9,
+        NumericPort::SuccessCount => 1,
+        NumericPort::FailureCount => 2,
+        NumericPort::NumAttempts => 3,
+        NumericPort::NumCycles => 4,
+        NumericPort::Msec => 5,
+        NumericPort::DelayMsec => 6,
+        NumericPort::ThenSkip => 7,
+        NumericPort::NumberOfRetries => 8,
+        NumericPort::Hz => 9,
     }
 }
 

@@ -57,8 +57,8 @@ fn begin<D: Drivers>(tree: &Tree, task: &Task, drivers: &mut D) -> Result<Runs, 
     make_planned_runs(task.alloc, tree, &slots, &task.world, drivers)
 }
 
-/// Makes the ticks of a modelled run and then finishes it, in the blocks of an earlier run where these do. The error is the fault of a node, or want of
-/// memory. In the end no driver holds anything, whatever is answered.
+/// Makes the ticks of a modelled run and then finishes it, in the blocks of an earlier run where these do. The error is
+/// the fault of a node, or want of memory. In the end no driver holds anything, whatever is answered.
 fn make_run<D: Drivers>(
     task: &Task,
     mut runs: Runs,

@@ -4,7 +4,7 @@ use Rattle.std.specs.List.{AllByRecursion}
 use Rattle.spec_script.specs.declared.syntax.Script.{Script}
 use Rattle.spec_script.specs.declared.value.Value.{Value}
 use Rattle.spec_script.specs.declared.value.Value.TheVariants.{Int, Text}
-use Rattle.spec_run.specs.declared.fault.PortId.{PortId}
+use Rattle.spec_run.specs.declared.fault.NumericPort.{NumericPort}
 use Rattle.spec_run.specs.declared.memory.Memo.{Memo}
 use Rattle.spec_run.specs.declared.memory.Memory.{Memory, out-Memory}
 use Rattle.spec_run.specs.declared.moves.Span.TheVariants as span
@@ -162,13 +162,13 @@ module _ (claim : Claim) where
     idle_meets status.Success m s fits = following_meets claim (change site.uid status.Success status.Idle) [] s s (done tt _ s) (change_meets s site.uid status.Success status.Idle) (done_meets claim tt _ s fits)
     idle_meets status.Failure m s fits = following_meets claim (change site.uid status.Failure status.Idle) [] s s (done tt _ s) (change_meets s site.uid status.Failure status.Idle) (done_meets claim tt _ s fits)
 
-    port_meets : {A : Type 0} (r : Result A PortId) → EndMeets claim (or_bad_port site.uid r)
+    port_meets : {A : Type 0} (r : Result A NumericPort) → EndMeets claim (or_bad_port site.uid r)
     port_meets (Ok a) = tt
     port_meets (Err port) = claim.bad_port port
 
     kind_meets : (memo : Memo) (ms : List Memory) (s : State) → claim.state s → Meets claim s (kind_rule site memo ms s)
     kind_meets memo ms s fits =
-        let r : Result ℕ PortId = picked site.node.kind site memo s in
+        let r : Result ℕ NumericPort = picked site.node.kind site memo s in
         follow_meets claim s (ends (or_bad_port site.uid r) ms s) (λ ms1. ms1) _ (ends_meet claim (or_bad_port site.uid r) ms s fits (port_meets r))
         (λ place. rule_meets claim (children_of site) each site.node.kind (length site.node.children) memo place s.moment ms s)
 
@@ -187,7 +187,7 @@ module _ (claim : Claim) where
 
     started_meets : (m : Memory) (s : State) → claim.state s → Meets claim s (started site m s)
     started_meets m s fits =
-        let made : Result Memo PortId = new_memo site.node.kind site (remembers (out-Memory m).status (out-Memory m).memo) s in
+        let made : Result Memo NumericPort = new_memo site.node.kind site (remembers (out-Memory m).status (out-Memory m).memo) s in
         let d : Done Memo (List Memory) = ends (or_bad_port site.uid made) (out-Memory m).children s in
         let go : Memo → List Memory → State → Done Answer Memory = λ memo ms s1. ruled site status.Running memo ms s1 in
         following_meets claim (change site.uid (out-Memory m).status status.Running) [] s s (follow d (λ ms. remembered status.Running (out-Memory m).memo ms) go) (change_meets s site.uid (out-Memory m).status status.Running)

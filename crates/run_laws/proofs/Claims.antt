@@ -7,7 +7,7 @@ use Rattle.std.proofs.lemmas.List.Sums.{sum_by-cons}
 use Rattle.spec_run.specs.declared.fault.Cause.{Cause}
 use Rattle.spec_run.specs.declared.fault.Cause.TheVariants.{BadPort, Mixed}
 use Rattle.spec_run.specs.declared.fault.NodeFault.{NodeFault}
-use Rattle.spec_run.specs.declared.fault.PortId.{PortId}
+use Rattle.spec_run.specs.declared.fault.NumericPort.{NumericPort}
 use Rattle.spec_run.specs.declared.memory.Memory.{Memory}
 use Rattle.spec_run.specs.declared.moves.Span.{Span}
 use Rattle.spec_run.specs.declared.note.Note.{Note}
@@ -39,7 +39,7 @@ pub record Claim : Type 1 where
   pub both : (s s1 s2 : State) (xs ys : List Note) → notes s xs s1 → notes s1 ys s2 → notes s (xs ++ ys) s2
   pub changed : (s : State) (uid : ℕ) (old new : Status) → notes s (Changed uid old new ∷ []) s
   pub halted : (s : State) (uid : ℕ) → state s → state (halt_state Leaf uid s) × notes s (Halted uid ∷ []) (halt_state Leaf uid s)
-  pub bad_port : (port : PortId) → cause (BadPort port)
+  pub bad_port : (port : NumericPort) → cause (BadPort port)
   pub mixed : cause Mixed
   pub below : (v : View) (scope : Scope) → view v → view (record v { scope = scope })
   pub nearer : (near far : ℕ) → near ≤ far → reach far → reach near

@@ -2,8 +2,8 @@
 use Rattle.std.proofs.Common.{◌≡◌, ℕ, ◌+◌, ◌-◌, ◌≤◌, List, length, Bool, true, false, Option, Some, None, Result, Ok, Err, IfOk, refl, sym, subst, ◌∙◌, arith}
 use Rattle.std.proofs.lemmas.List.{length-map}
 use Rattle.std.specs.Prelude.{codes}
-use Rattle.spec_run.specs.declared.fault.PortId.{PortId}
-use Rattle.spec_run.specs.declared.fault.PortId.TheVariants as port
+use Rattle.spec_run.specs.declared.fault.NumericPort.{NumericPort}
+use Rattle.spec_run.specs.declared.fault.NumericPort.TheVariants as port
 use Rattle.spec_run.specs.declared.memory.Memo.{Memo}
 use Rattle.spec_run.specs.declared.memory.Memo.TheVariants.{Nothing, Index, Chosen, Finished, Counts as Counted, Turns as Turned, Since as Begun, Recoveries as Recovering, Rotation as Rotating, Pace as Paced}
 use Rattle.spec_run.specs.declared.memory.Memory.{Memory}
@@ -228,7 +228,7 @@ module _ (F : Family) (node : Term-F F.Child) (view : View) (uid : ℕ) (row : O
       (λ f all w. all)
       (λ g fits all w. (subst (λ (now : ℕ). Shape (status_of g.answer) node.kind node.ports row now g.memo (statuses d.memory)) (sym w.moment) fits, w.below uid (omega arith)))
 
-  ruled_with : (r : Result ℕ PortId) → Begins node.kind node.ports s.moment memo (statuses ms) →
+  ruled_with : (r : Result ℕ NumericPort) → Begins node.kind node.ports s.moment memo (statuses ms) →
       Ruled F node view uid row s (follow (ends (or_bad_port uid r) ms s) (λ ms1. ms1) (λ place ms1 s1. rule node.kind (length here.node.children) memo place s1.moment (children_of here) ms1 s1))
   ruled_with (Ok place) begins = followed place begins
   ruled_with (Err bad) begins = record {

@@ -1,6 +1,6 @@
 -- The rule of every kind with children makes no more calls of start and running than its work counts.
 use Rattle.std.proofs.Common.{ℕ, ◌+◌, ◌*◌, ◌-◌, List, false, length, map, pos, None, Result, Ok, Err, IsTrue, arith}
-use Rattle.spec_run.specs.declared.fault.PortId.{PortId}
+use Rattle.spec_run.specs.declared.fault.NumericPort.{NumericPort}
 use Rattle.spec_run.specs.declared.memory.Memo.{Memo}
 use Rattle.spec_run.specs.declared.memory.Memo.TheVariants.{Turns as Turned, Recoveries as Recovering}
 use Rattle.spec_run.specs.declared.memory.Memory.{Memory}
@@ -87,7 +87,7 @@ module _ (F : Family) (node : Term-F F.Child) (L : Labour F node.children) (view
   abbrev here : Site
   here = site_here F node view uid
 
-  made_with : (r : Result ℕ PortId) →
+  made_with : (r : Result ℕ NumericPort) →
       Spends (times_of node.kind node.ports * whole L.work node.children + once_more node.kind (map L.work node.children)) (follow (ends (or_bad_port uid r) ms s) (λ ms1. ms1) (λ place ms1 s1. rule node.kind (length here.node.children) memo place s1.moment (children_of here) ms1 s1))
   made_with (Ok place) = kind_makes F node.children L (view_below here) (uid + 1) (length here.node.children) place node.ports s.moment (statuses ms) node.kind memo begins fit ms s sound
   made_with (Err bad) = omega arith

@@ -8,7 +8,7 @@ use Rattle.spec_script.specs.declared.value.Value.{Value}
 use Rattle.spec_script.specs.declared.value.Value.TheVariants.{Int, Text}
 use Rattle.spec_tree.specs.declared.built_ins.Range.{Range}
 use Rattle.spec_tree.specs.declared.built_ins.Range.TheVariants as range
-use Rattle.spec_run.specs.declared.fault.PortId.{PortId}
+use Rattle.spec_run.specs.declared.fault.NumericPort.{NumericPort}
 use Rattle.spec_run.specs.declared.memory.Counts.{Counts}
 use Rattle.spec_run.specs.declared.memory.Memo.{Memo}
 use Rattle.spec_run.specs.declared.memory.Memo.TheVariants.{Counts as Counted, Turns as Turned, Since as Begun, Recoveries as Recovering, Pace as Paced}
@@ -60,12 +60,12 @@ turns_go_on (pos k) e = ⊎_elim
     not_same : int_eq (pos k) (negsuc 0) ≡ true → ⊥
     not_same same = cc
 
-turns_by : (port : PortId) (ports : List Port) (name : List ℕ) (o : Option ℤ) (P : Memo → Type 0) → ((k : ℤ) → IsTurned (record { done = 0; limit = k }) ports name → P (Turned (record { done = 0; limit = k }))) →
+turns_by : (port : NumericPort) (ports : List Port) (name : List ℕ) (o : Option ℤ) (P : Memo → Type 0) → ((k : ℤ) → IsTurned (record { done = 0; limit = k }) ports name → P (Turned (record { done = 0; limit = k }))) →
     IfSome o (λ k. IsGivenAt range.Turns ports name k × (fits range.Turns (Int k) ≡ true)) → IfOk (turns_start port o) P
 turns_by port ports name None P holds given = tt
 turns_by port ports name (Some k) P holds given = holds k (record { limit = given.0; goes_on = turns_go_on k given.1 })
 
-pub turns_begin : (port : PortId) (site : Site) (s : State) (name : List ℕ) (P : Memo → Type 0) → ((k : ℤ) → IsTurned (record { done = 0; limit = k }) site.node.ports name → P (Turned (record { done = 0; limit = k }))) →
+pub turns_begin : (port : NumericPort) (site : Site) (s : State) (name : List ℕ) (P : Memo → Type 0) → ((k : ℤ) → IsTurned (record { done = 0; limit = k }) site.node.ports name → P (Turned (record { done = 0; limit = k }))) →
     IfOk (turns_start port (within range.Turns (number_at site s name))) P
 turns_begin port site s name P holds = turns_by port site.node.ports name (within range.Turns (number_at site s name)) P holds (number_read range.Turns site s name)
 
@@ -75,12 +75,12 @@ length_given : (now : ℕ) (ports : List Port) (name : List ℕ) (k : ℤ) → I
 length_given now ports name (pos k) given e = record { first = omega arith; length = given }
 length_given now ports name (negsuc k) given e = cc
 
-since_by : (port : PortId) (now : ℕ) (ports : List Port) (name : List ℕ) (o : Option ℤ) (P : Memo → Type 0) → ((k : ℕ) → IsBegun (record { first = now; length = k }) now ports name → P (Begun (record { first = now; length = k }))) →
+since_by : (port : NumericPort) (now : ℕ) (ports : List Port) (name : List ℕ) (o : Option ℤ) (P : Memo → Type 0) → ((k : ℕ) → IsBegun (record { first = now; length = k }) now ports name → P (Begun (record { first = now; length = k }))) →
     IfSome o (λ k. IsGivenAt range.Duration ports name k × (fits range.Duration (Int k) ≡ true)) → IfOk (since_start port now o) P
 since_by port now ports name None P holds given = tt
 since_by port now ports name (Some k) P holds given = holds (nat_abs k) (length_given now ports name k given.0 given.1)
 
-pub since_begins : (port : PortId) (site : Site) (s : State) (name : List ℕ) (P : Memo → Type 0) → ((k : ℕ) → IsBegun (record { first = s.moment; length = k }) s.moment site.node.ports name → P (Begun (record { first = s.moment; length = k }))) →
+pub since_begins : (port : NumericPort) (site : Site) (s : State) (name : List ℕ) (P : Memo → Type 0) → ((k : ℕ) → IsBegun (record { first = s.moment; length = k }) s.moment site.node.ports name → P (Begun (record { first = s.moment; length = k }))) →
     IfOk (since_start port s.moment (within range.Duration (number_at site s name))) P
 since_begins port site s name P holds = since_by port s.moment site.node.ports name (within range.Duration (number_at site s name)) P holds (number_read range.Duration site s name)
 

@@ -1,7 +1,7 @@
 -- A visit of a node makes no more calls of start and running than its work counts, and a reset makes none.
 use Rattle.std.proofs.Common.{◌≡◌, ℕ, ◌+◌, ◌*◌, ◌≤◌, List, map, Bool, true, false, Option, Some, None, IfOk, Result, Ok, Err, IsTrue, refl, ap, arith}
 use Rattle.spec_script.specs.declared.syntax.Script.{Script}
-use Rattle.spec_run.specs.declared.fault.PortId.{PortId}
+use Rattle.spec_run.specs.declared.fault.NumericPort.{NumericPort}
 use Rattle.spec_run.specs.declared.memory.Memo.{Memo}
 use Rattle.spec_run.specs.declared.memory.Memory.{Memory, out-Memory}
 use Rattle.spec_run.specs.declared.moves.Span.TheVariants as span
@@ -166,7 +166,7 @@ module _ (F : Family) (node : Term-F F.Child) (L : Labour F node.children) (view
       (node_rule_spends st memo ms s node.kind refl ready all) (λ g. ended_free site st g d.memory d.state)
 
   -- the memo of a start is new, or a port is bad
-  started_by_spends : (m : Memory) (s : State) (r : Result Memo PortId) → has_rule node.kind ≡ true → IfOk r (λ memo. Begins node.kind node.ports s.moment memo (statuses (out-Memory m).children)) →
+  started_by_spends : (m : Memory) (s : State) (r : Result Memo NumericPort) → has_rule node.kind ≡ true → IfOk r (λ memo. Begins node.kind node.ports s.moment memo (statuses (out-Memory m).children)) →
       NodeKeeps F node view uid status.Idle (out-Memory m).memo (out-Memory m).children s → All None (out-Memory m).children s →
       Spends (1 + rounds) (follow (ends (or_bad_port uid r) (out-Memory m).children s) (λ ms. remembered status.Running (out-Memory m).memo ms) (λ memo ms s1. ruled site status.Running memo ms s1))
   started_by_spends m s (Ok memo) has begins own all = ruled_spends status.Running memo (out-Memory m).children s (ready_new F node view uid memo m s has begins own) all

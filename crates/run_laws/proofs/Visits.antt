@@ -1,7 +1,7 @@
 -- A visit of a node keeps the rules of states.
 use Rattle.std.proofs.Common.{◌≡◌, ℕ, ◌+◌, List, [], Bool, true, false, length, Option, Some, None, IfOk, Result, Ok, Err, refl, sym, ap, subst, ◌∙◌, arith}
 use Rattle.std.proofs.lemmas.List.{length-map}
-use Rattle.spec_run.specs.declared.fault.PortId.{PortId}
+use Rattle.spec_run.specs.declared.fault.NumericPort.{NumericPort}
 use Rattle.spec_run.specs.declared.memory.Memo.{Memo}
 use Rattle.spec_run.specs.declared.memory.Memo.TheVariants.{Pace as Paced}
 use Rattle.spec_run.specs.declared.memory.Memory.{Memory, out-Memory}
@@ -153,7 +153,7 @@ module _ (F : Family) (node : Term-F F.Child) (view : View) (uid : ℕ) where
       }
 
   -- the memo of a start is new, or a port is bad
-  started_by : (m : Memory) (s : State) (r : Result Memo PortId) → has_rule node.kind ≡ true → IfOk r (λ memo. Begins node.kind node.ports s.moment memo (statuses (out-Memory m).children)) →
+  started_by : (m : Memory) (s : State) (r : Result Memo NumericPort) → has_rule node.kind ≡ true → IfOk r (λ memo. Begins node.kind node.ports s.moment memo (statuses (out-Memory m).children)) →
       Keeps status.Idle (out-Memory m).memo (out-Memory m).children s → All None (out-Memory m).children s →
       Visited s (follow (ends (or_bad_port uid r) (out-Memory m).children s) (λ ms. remembered status.Running (out-Memory m).memo ms) (λ memo ms s1. ruled here status.Running memo ms s1))
   started_by m s (Ok memo) has begins own all =

@@ -5,7 +5,7 @@ use Rattle.std.proofs.lemmas.List.{length-map, length-take}
 use Rattle.std.specs.Prelude.{IsErrAnd, option_and_then, slice_index_or}
 use Rattle.spec_script.specs.declared.value.Value.{Value}
 use Rattle.spec_script.specs.declared.value.Value.TheVariants.{Int, Text}
-use Rattle.spec_run.specs.declared.fault.PortId.{PortId}
+use Rattle.spec_run.specs.declared.fault.NumericPort.{NumericPort}
 use Rattle.spec_run.specs.declared.memory.Memo.{Memo}
 use Rattle.spec_tree.specs.declared.term.Kind.{Kind}
 use Rattle.spec_tree.specs.declared.term.Kind.TheVariants.{Parallel, RateController, Switch}
@@ -47,7 +47,7 @@ rate_means_given site s (Some (Key key)) = key_rate key (value_by site s (Some (
 rate_means_given site s None = refl
 
 -- a bad port is the same fault, whichever memo comes after it
-pub bad_port_after : (uid : ℕ) (r : Result (Unit {0}) PortId) (memo : Memo) → with_memo (or_bad_port uid r) memo ≡ or_bad_port uid (with_memo r memo)
+pub bad_port_after : (uid : ℕ) (r : Result (Unit {0}) NumericPort) (memo : Memo) → with_memo (or_bad_port uid r) memo ≡ or_bad_port uid (with_memo r memo)
 bad_port_after uid (Ok _) memo = refl
 bad_port_after uid (Err p) memo = refl
 
@@ -106,7 +106,7 @@ module _ (term : Term-F Meaning) (view : View) (whole uid : ℕ) (s : State) (no
   starts_as : (memo : Memo) (kind : Kind) → node.kind ≡ kind → new_memo kind (site_of term view uid) memo s ≡ new_memo term.kind (site_of term view uid) memo s
   starts_as memo kind is = ap (λ (kd : Kind). new_memo kd (site_of term view uid) memo s) (sym is ∙ k.kind)
 
-  pub parallel_starts : (memo : Memo) (r : Result Memo PortId) → node.kind ≡ Parallel →
+  pub parallel_starts : (memo : Memo) (r : Result Memo NumericPort) → node.kind ≡ Parallel →
       r ≡ parallel_start (threshold node.children (source_number s.board (port_at node 0))) (is_negative (source_number s.board (port_at node 0))) (threshold node.children (source_number s.board (port_at node 1))) →
       r ≡ new_memo term.kind (site_of term view uid) memo s
   parallel_starts memo r is e =
@@ -117,7 +117,7 @@ module _ (term : Term-F Meaning) (view : View) (whole uid : ℕ) (s : State) (no
       ∙ starts_as memo Parallel is
 
   -- the rate of a RateController
-  pub pace_starts : (memo : Memo) (r : Result Memo PortId) → node.kind ≡ RateController →
+  pub pace_starts : (memo : Memo) (r : Result Memo NumericPort) → node.kind ≡ RateController →
       r ≡ next_pace memo (pace_start s.moment (source_rate s.board (port_at node 0))) →
       r ≡ new_memo term.kind (site_of term view uid) memo s
   pace_starts memo r is e =

@@ -6,14 +6,14 @@ mod alone;
 mod ending;
 pub mod halting;
 mod leaves;
-mod ports;
 mod scripts;
 mod sources;
+mod starts;
 mod telling;
 
 pub use alone::visit_alone;
 pub use ending::{end_visit, note_change};
 pub use halting::{halt, quench, reset, reset_children};
-pub use ports::{picked, remembers, start_memo};
 pub use scripts::{goes_on, guards_answer, script_if_there};
+pub use starts::{picked, remembers, start_memo};
 pub use telling::tell_leaf;

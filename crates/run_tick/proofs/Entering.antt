@@ -6,7 +6,7 @@ use Rattle.base_texts.specs.declared.stop.Stop.{Stop}
 use Rattle.base_texts.specs.declared.stop.Stop.TheVariants as stop
 use Rattle.spec_script.specs.declared.value.Value.{Value}
 use Rattle.spec_run.specs.declared.fault.NodeFault.{NodeFault}
-use Rattle.spec_run.specs.declared.fault.PortId.{PortId}
+use Rattle.spec_run.specs.declared.fault.NumericPort.{NumericPort}
 use Rattle.spec_run.specs.declared.memory.Memo.{Memo}
 use Rattle.spec_run.specs.declared.memory.Memory.{Memory, Memory-F, out-Memory, out-roll-Memory}
 use Rattle.spec_run.specs.declared.moves.Heard.TheVariants.{Begin}
@@ -171,7 +171,7 @@ module _ (nodes : List Node) (moment : ℕ) (term : Term) (view : View) (uid : �
   pub rule_faults : has_rule (kind_of term) ≡ true → (f : NodeFault) → Err f ≡ or_bad_port uid (picked (kind_of term) site memo now) → ruled_in nodes moment term view uid s ≡ ends (Err f) (memory_of term uid s.kept) now
   rule_faults with_rule f is = ruled_so with_rule (Err f) is ∙ ap (λ (m : Memory). ends (Err f) m now) (sym (memory_out term uid s.kept))
 
-picked_so : (uid : ℕ) (place : ℕ) (r : Result ℕ PortId) → Ok place ≡ or_bad_port uid r → r ≡ Ok place
+picked_so : (uid : ℕ) (place : ℕ) (r : Result ℕ NumericPort) → Ok place ≡ or_bad_port uid r → r ≡ Ok place
 picked_so uid place (Ok p) is = cc
 picked_so uid place (Err p) is = cc
 
@@ -279,7 +279,7 @@ module _ (keeps : (t : Term) → Keeps (meaning t) (Sound t)) (nodes : List Node
         let begins = starts_begin site old (state_in nodes s moment) here_statuses all (kind_of term) (starts_with_rule (kind_of term) (kept_at s.kept uid).memo start) shape in
         begins_by memo (given_so (new_memo (kind_of term) site old (state_in nodes s moment)) is begins)
       where
-        given_so : (r : Result Memo PortId) → Ok memo ≡ or_bad_port uid r → IfOk r (λ m. Begins (kind_of term) (out-Term term).ports moment m here_statuses) → Begins (kind_of term) (out-Term term).ports moment memo here_statuses
+        given_so : (r : Result Memo NumericPort) → Ok memo ≡ or_bad_port uid r → IfOk r (λ m. Begins (kind_of term) (out-Term term).ports moment m here_statuses) → Begins (kind_of term) (out-Term term).ports moment memo here_statuses
         given_so (Ok m) is begins = let same : m ≡ memo = cc in subst (λ (x : Memo). Begins (kind_of term) (out-Term term).ports moment x here_statuses) same begins
         given_so (Err p) is begins = cc
 

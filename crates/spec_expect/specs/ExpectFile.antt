@@ -15,8 +15,8 @@ use Rattle.spec_world.specs.declared.world.World.{World}
 use Rattle.spec_world.specs.Worlds.{is_name}
 use Rattle.spec_world_file.specs.WorldFile.{ReadsNumeric, after_word, comparison_in, content, ends_after, following, front_word, is_apart, is_ignored, is_line_byte, is_ms, is_runner, knows_all, lines_in, text_to_quote, without_gap, without_return, word}
 use Rattle.spec_expect.specs.declared.expect_fault.ExpectFault.{ExpectFault}
-use Rattle.spec_expect.specs.declared.expect_fault.ExpectKind.{ExpectKind}
-use Rattle.spec_expect.specs.declared.expect_fault.ExpectKind.TheVariants.{Header, BadLine, NoName, NoLeaf, NoRunner, Range, TooMany}
+use Rattle.spec_expect.specs.declared.expect_fault.ExpectFaultKind.{ExpectFaultKind}
+use Rattle.spec_expect.specs.declared.expect_fault.ExpectFaultKind.TheVariants.{Header, BadLine, NoName, NoLeaf, NoRunner, Range, TooMany}
 use Rattle.spec_expect.specs.declared.expectation.Expectation.{Expectation}
 use Rattle.spec_expect.specs.declared.expectation.Expectation.TheVariants.{Always, At, By, NeverAnswers, StartsOnly, Starts, Ends, NeverWith, Order}
 use Rattle.spec_expect.specs.declared.expectation.Expected.{Expected}
@@ -156,34 +156,34 @@ abbrev pub subject_of : Tree → World → Subject
 subject_of tree world = record { facts = world.facts; runners = world.runners; places = places_of tree }
 
 -- a moment, or a count in the same range
-abbrev pub moment_of : ℤ → Result ℕ ExpectKind
+abbrev pub moment_of : ℤ → Result ℕ ExpectFaultKind
 moment_of ms = if is_ms ms then Ok (nat_abs ms) else Err Range
 
-abbrev pub runner_in : ℕ → ℤ → Result ℕ ExpectKind
+abbrev pub runner_in : ℕ → ℤ → Result ℕ ExpectFaultKind
 runner_in runners number = if is_runner runners number then Ok (nat_abs number) else Err NoRunner
 
 -- the leaves that are told so, of which there is one at least
-abbrev pub leaves_in : List Place → Pick → Result (List Bool) ExpectKind
+abbrev pub leaves_in : List Place → Pick → Result (List Bool) ExpectFaultKind
 leaves_in places pick =
     if list_any (λ mark. mark) (marks_of pick places) then Ok (marks_of pick places) else Err NoLeaf
 
 -- an expression that names facts alone
-abbrev pub over_facts : List Fact → Expr → Result Expr ExpectKind
+abbrev pub over_facts : List Fact → Expr → Result Expr ExpectFaultKind
 over_facts facts e = if knows_all [] facts e then Ok e else Err NoName
 
 -- what is said by what a text reads as, which is to be an expression
-abbrev pub by_expr : Option Expr → (Expr → Result Expectation ExpectKind) → Result Expectation ExpectKind
+abbrev pub by_expr : Option Expr → (Expr → Result Expectation ExpectFaultKind) → Result Expectation ExpectFaultKind
 by_expr None rule = Err BadLine
 by_expr (Some e) rule = rule e
 
 -- this is said of the expression that a text is
-pub record SaysOf (text : List ℕ) (rule : Expr → Result Expectation ExpectKind) (said : Result Expectation ExpectKind) : Type 0 where
+pub record SaysOf (text : List ℕ) (rule : Expr → Result Expectation ExpectFaultKind) (said : Result Expectation ExpectFaultKind) : Type 0 where
   pub expr : Option Expr
   pub reads : ReadsNumeric text expr
   pub is : said ≡ by_expr expr rule
 
 -- what a line expects, or what is wrong with it first
-abbrev pub Says : Subject → Line → Result Expectation ExpectKind → Type 0
+abbrev pub Says : Subject → Line → Result Expectation ExpectFaultKind → Type 0
 Says s (AlwaysLine expr) said = SaysOf expr (λ e. over_facts s.facts e >>= λ e. Ok (Always e)) said
 Says s (AtLine ms expr) said = SaysOf expr (λ e. moment_of ms >>= λ ms. over_facts s.facts e >>= λ e. Ok (At ms e)) said
 Says s (ByLine ms runner answer) said =
@@ -201,30 +201,30 @@ Says s (OrderLine first second) said =
     said ≡ (leaves_in s.places first >>= λ first. leaves_in s.places second >>= λ second. Ok (Order first second))
 
 -- .. what may be a line of one of the forms
-abbrev pub FormSays : Subject → Option Line → Result Expectation ExpectKind → Type 0
+abbrev pub FormSays : Subject → Option Line → Result Expectation ExpectFaultKind → Type 0
 FormSays s None said = said ≡ Err BadLine
 FormSays s (Some line) said = Says s line said
 
 -- ---- The lines of a file
 
 -- one more expectation, of this line
-abbrev pub with_expected : List Expected → ℕ → Expectation → Result (List Expected) ExpectKind
+abbrev pub with_expected : List Expected → ℕ → Expectation → Result (List Expected) ExpectFaultKind
 with_expected before line expectation =
     if nat_le most_expectations (length before) then Err TooMany
     else Ok (before ++ record { line = line; expectation = expectation } ∷ [])
 
 -- after a line that is of one of the forms, or of none
-pub record AfterForm (s : Subject) (before : List Expected) (line : ℕ) (text : List ℕ) (after : Result (List Expected) ExpectKind) : Type 0 where
-  pub said : Result Expectation ExpectKind
+pub record AfterForm (s : Subject) (before : List Expected) (line : ℕ) (text : List ℕ) (after : Result (List Expected) ExpectFaultKind) : Type 0 where
+  pub said : Result Expectation ExpectFaultKind
   pub says : FormSays s (line_in text) said
   pub is : after ≡ (said >>= with_expected before line)
 
 -- after the content of a line: blank lines, and lines that begin with `#`, are ignored
-abbrev pub AfterContent : Subject → List Expected → ℕ → List ℕ → Result (List Expected) ExpectKind → Type 0
+abbrev pub AfterContent : Subject → List Expected → ℕ → List ℕ → Result (List Expected) ExpectFaultKind → Type 0
 AfterContent s before line text after = MatchBool (is_ignored text) (after ≡ Ok before) (AfterForm s before line text after)
 
 -- the lines after one are read, or it is the first faulty one
-abbrev pub GoesOn : ℕ → (List Expected → Type 0) → Result (List Expected) ExpectFault → Result (List Expected) ExpectKind → Type 0
+abbrev pub GoesOn : ℕ → (List Expected → Type 0) → Result (List Expected) ExpectFault → Result (List Expected) ExpectFaultKind → Type 0
 GoesOn line rest read (Ok after) = rest after
 GoesOn line rest read (Err kind) = read ≡ Err (record { line = line; kind = kind })
 
@@ -232,7 +232,7 @@ GoesOn line rest read (Err kind) = read ≡ Err (record { line = line; kind = ki
 abbrev pub AfterLines : Subject → ℕ → List (List ℕ) → List Expected → Result (List Expected) ExpectFault → Type 0
 AfterLines s line [] before read = read ≡ Ok before
 AfterLines s line (text ∷ texts) before read =
-    (after : Result (List Expected) ExpectKind) × AfterContent s before line (content text) after
+    (after : Result (List Expected) ExpectFaultKind) × AfterContent s before line (content text) after
     × GoesOn line (λ left. AfterLines s (line + 1) texts left read) read after
 
 -- the lines of a file, of which the first is the header

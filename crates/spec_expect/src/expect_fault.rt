@@ -1,7 +1,7 @@
 /// What is wrong with a line of a file of expectations. Where a line has several of these, `BadLine` comes first, then the
 /// one that stands first in the line, and `TooMany` last.
 #[derive(Clone, Copy, Debug, PartialEq, Eq)]
-pub enum ExpectKind {
+pub enum ExpectFaultKind {
     /// The first line is not `bt-expect 1`, or there is no line.
     Header,
     /// The line has none of the forms.
@@ -22,5 +22,5 @@ pub enum ExpectKind {
 #[derive(Clone, Copy, Debug, PartialEq, Eq)]
 pub struct ExpectFault {
     pub line: u32,
-    pub kind: ExpectKind,
+    pub kind: ExpectFaultKind,
 }

@@ -7,7 +7,7 @@ mod expectation;
 mod place;
 mod verdict;
 
-pub use expect_fault::{ExpectFault, ExpectKind};
+pub use expect_fault::{ExpectFault, ExpectFaultKind};
 pub use expectation::{Expectation, Expected};
 pub use place::{Pick, Place};
 pub use verdict::Verdict;

@@ -11,8 +11,8 @@ use Rattle.spec_run.specs.declared.block.Header.{Header}
 use Rattle.spec_run.specs.declared.block.Header.TheVariants as header
 use Rattle.spec_run.specs.declared.fault.Cause.{Cause}
 use Rattle.spec_run.specs.declared.fault.Cause.TheVariants as cause
-use Rattle.spec_run.specs.declared.fault.PortId.{PortId}
-use Rattle.spec_run.specs.declared.fault.PortId.TheVariants as port
+use Rattle.spec_run.specs.declared.fault.NumericPort.{NumericPort}
+use Rattle.spec_run.specs.declared.fault.NumericPort.TheVariants as port
 use Rattle.spec_run.specs.declared.note.Note.{Note}
 use Rattle.spec_run.specs.declared.note.Note.TheVariants as note
 use Rattle.spec_run.specs.declared.status.Status.{Status}
@@ -42,7 +42,7 @@ answer_word answer.Failure = codes "FAILURE"
 answer_word answer.Skipped = codes "SKIPPED"
 
 -- the name of a numeric port
-abbrev pub port_word : PortId → List ℕ
+abbrev pub port_word : NumericPort → List ℕ
 port_word port.SuccessCount = codes "success_count"
 port_word port.FailureCount = codes "failure_count"
 port_word port.NumAttempts = codes "num_attempts"

@@ -6,7 +6,7 @@ use Rattle.spec_program.specs.Files.{Contents, Named}
 use Rattle.spec_program.specs.Jobs.{FilesBegin, FilesGive, files_of}
 use Rattle.spec_program.specs.Output.{AreUncalled}
 use Rattle.spec_program.specs.Gives.{Beginning, Giving}
-use Rattle.spec_program.specs.Refused.{too_long, unread, words_refused}
+use Rattle.spec_program.specs.RefusalOutputs.{too_long, unread, words_refused}
 use Rattle.spec_program.specs.Words.{Command}
 use Rattle.spec_outside.specs.Files.{Told}
 use Rattle.spec_tree.specs.Limits.{most_file_bytes}

@@ -15,7 +15,7 @@ use Rattle.spec_outside.specs.Moments.{Moments}
 use Rattle.spec_output.specs.Rounds.{live_events, taken}
 use Rattle.spec_output.specs.Texts.{text_of}
 use Rattle.spec_program.specs.Output.{Asked, Never, OfRun, Output, Times, UpToFault}
-use Rattle.spec_program.specs.Refused.{join_refused}
+use Rattle.spec_program.specs.RefusalOutputs.{join_refused}
 use Rattle.spec_program.specs.declared.course.Course.TheVariants as course
 use Rattle.spec_program.specs.declared.exit.Exit.TheVariants as exit
 

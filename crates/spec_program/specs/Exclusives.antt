@@ -11,7 +11,7 @@ use Rattle.spec_program.specs.declared.file.File.TheVariants as file
 use Rattle.spec_program.specs.declared.tree_fault.TreeFault.{TreeFault}
 use Rattle.spec_program.specs.Gives.{Giving, OrTooLong}
 use Rattle.spec_program.specs.Output.{Never as Unasked, NoCalls, Output, line_of}
-use Rattle.spec_program.specs.Refused.{no_leaf, too_long, tree_refused}
+use Rattle.spec_program.specs.RefusalOutputs.{no_leaf, too_long, tree_refused}
 use Rattle.spec_program.specs.TreeFiles.{TreeReads}
 
 -- at most so many pairs have lines

@@ -21,7 +21,7 @@ use Rattle.spec_program.specs.declared.file.File.TheVariants as file
 use Rattle.spec_program.specs.declared.tree_fault.TreeFault.{TreeFault}
 use Rattle.spec_program.specs.Gives.{Giving, OrTooLong}
 use Rattle.spec_program.specs.Output.{Ending, Never, OfRun, Output}
-use Rattle.spec_program.specs.Refused.{expect_refused, join_refused, too_long, tree_refused, world_refused}
+use Rattle.spec_program.specs.RefusalOutputs.{expect_refused, join_refused, too_long, tree_refused, world_refused}
 use Rattle.spec_program.specs.TreeFiles.{TreeReads}
 
 -- ---- The output

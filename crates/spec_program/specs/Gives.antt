@@ -15,7 +15,7 @@ use Rattle.spec_world_file.specs.declared.world_fault.WorldFault.{WorldFault}
 use Rattle.spec_tree.specs.Limits.{most_file_bytes}
 use Rattle.spec_world_file.specs.WorldFile.{ReadsWorld}
 use Rattle.spec_program.specs.Output.{AreUncalled, Begun, Output, Ending}
-use Rattle.spec_program.specs.Refused.{too_long, world_refused, tree_refused, rules_refused}
+use Rattle.spec_program.specs.RefusalOutputs.{too_long, world_refused, tree_refused, rules_refused}
 use Rattle.spec_program.specs.Printed.{print_made, print_output}
 use Rattle.spec_program.specs.ToldApart.{told_apart}
 use Rattle.spec_program.specs.Courses.{Given, given, joined_output}

@@ -8,7 +8,7 @@ use Rattle.spec_tree.specs.Limits.{most_file_bytes}
 use Rattle.spec_program.specs.PlanOutputs.{WorldBegun, WorldPlans}
 use Rattle.spec_program.specs.Output.{AreUncalled, Begun, Output}
 use Rattle.spec_program.specs.Gives.{Beginning, Giving, OrTooLong}
-use Rattle.spec_program.specs.Refused.{too_long, ground_refused}
+use Rattle.spec_program.specs.RefusalOutputs.{too_long, ground_refused}
 use Rattle.spec_plan.specs.declared.ending.Limits.{Limits}
 use Rattle.spec_world_file.specs.GroundFile.{Grounded, MakesWorld, reads_ground}
 use Rattle.spec_program.specs.Printed.{ground_output}

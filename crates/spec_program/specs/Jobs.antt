@@ -12,7 +12,7 @@ use Rattle.spec_program.specs.Expecting.{Expects}
 use Rattle.spec_program.specs.Grounds.{GroundBegins, GroundPlans, Grounds}
 use Rattle.spec_program.specs.Gives.{Beginning, BeginsNothing, CourseGives, Giving, Mocks, Prints, PrintsMade, RunsOn}
 use Rattle.spec_program.specs.Output.{Output}
-use Rattle.spec_program.specs.Refused.{words_refused}
+use Rattle.spec_program.specs.RefusalOutputs.{words_refused}
 use Rattle.spec_program.specs.Plans.{Begins, Plans}
 use Rattle.spec_plan.specs.declared.ending.Limits.{Limits}
 

@@ -14,7 +14,7 @@ pub mod Plans
 pub mod Printed
 pub mod Reads
 pub mod Refusals
-pub mod Refused
+pub mod RefusalOutputs
 pub mod ToldApart
 pub mod TreeFiles
 pub mod Words

@@ -9,7 +9,7 @@ use Rattle.spec_run.specs.Drivers.{DriverState, kind_of_row, place_of_kind}
 use Rattle.spec_tree.specs.PrintedTree.{tree_lines}
 use Rattle.spec_plan.specs.declared.ending.PlanEnd.{PlanEnd}
 use Rattle.spec_program.specs.Output.{Begun, Never, OfPlan, Output}
-use Rattle.spec_program.specs.Refused.{join_refused, no_goal}
+use Rattle.spec_program.specs.RefusalOutputs.{join_refused, no_goal}
 use Rattle.std.specs.Option.{option_or}
 use Rattle.spec_world.specs.declared.world.Row.{Row}
 use Rattle.spec_world.specs.Worlds.{IsValidWorld}

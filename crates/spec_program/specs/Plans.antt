@@ -9,7 +9,7 @@ use Rattle.spec_world_file.specs.WorldFile.{ReadsWorld}
 use Rattle.spec_program.specs.PlanOutputs.{WorldBegun, WorldPlans}
 use Rattle.spec_program.specs.Output.{AreUncalled, Begun, Output}
 use Rattle.spec_program.specs.Gives.{Beginning, Giving, OrTooLong}
-use Rattle.spec_program.specs.Refused.{too_long, world_refused}
+use Rattle.spec_program.specs.RefusalOutputs.{too_long, world_refused}
 use Rattle.spec_plan.specs.declared.ending.Limits.{Limits}
 
 -- ---- A plan

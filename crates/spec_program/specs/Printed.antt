@@ -14,7 +14,7 @@ use Rattle.spec_output.specs.Lines.{quoted}
 use Rattle.spec_tree.specs.PrintedTree.{tree_lines}
 use Rattle.spec_tree.specs.Terms.{node_count, work_of}
 use Rattle.spec_program.specs.Output.{Never, NoCalls, Output}
-use Rattle.spec_program.specs.Refused.{ground_refused, rules_refused, tree_refused}
+use Rattle.spec_program.specs.RefusalOutputs.{ground_refused, rules_refused, tree_refused}
 use Rattle.spec_world_file.specs.GroundFile.{Grounded}
 
 -- the last line of a check: how many nodes the tree has, and its work

@@ -18,11 +18,11 @@ use Rattle.spec_output.specs.Lines.{quoted}
 use Rattle.spec_run.specs.declared.leaf.DriverKind.{DriverKind}
 use Rattle.spec_run.specs.declared.leaf.DriverKind.TheVariants as driver
 use Rattle.spec_expect.specs.declared.expect_fault.ExpectFault.{ExpectFault}
-use Rattle.spec_expect.specs.declared.expect_fault.ExpectKind.{ExpectKind}
-use Rattle.spec_expect.specs.declared.expect_fault.ExpectKind.TheVariants as expect
+use Rattle.spec_expect.specs.declared.expect_fault.ExpectFaultKind.{ExpectFaultKind}
+use Rattle.spec_expect.specs.declared.expect_fault.ExpectFaultKind.TheVariants as expect
 use Rattle.spec_world_file.specs.declared.world_fault.WorldFault.{WorldFault}
-use Rattle.spec_world_file.specs.declared.world_fault.WorldKind.{WorldKind}
-use Rattle.spec_world_file.specs.declared.world_fault.WorldKind.TheVariants as world
+use Rattle.spec_world_file.specs.declared.world_fault.WorldFaultKind.{WorldFaultKind}
+use Rattle.spec_world_file.specs.declared.world_fault.WorldFaultKind.TheVariants as world
 use Rattle.spec_script.specs.declared.fault.ScriptFault.{ScriptFault}
 use Rattle.spec_script.specs.declared.fault.ScriptFault.TheVariants as script
 
@@ -82,7 +82,7 @@ tree_words (fault.Elements f) = element_words f
 tree_words (fault.Manifest f) = manifest_words f
 tree_words (fault.Build f) = build_words f
 
-abbrev pub kind_word : WorldKind → List ℕ
+abbrev pub kind_word : WorldFaultKind → List ℕ
 kind_word world.Header = codes "Header"
 kind_word world.BadLine = codes "BadLine"
 kind_word world.Range = codes "Range"
@@ -131,7 +131,7 @@ ground_words (ground.Unended line) = numbered (codes "Unended") line
 ground_words (ground.TooManyGround size) = numbered (codes "TooManyGround") size
 ground_words (ground.World line kind) = codes "World " ++ numbered (kind_word kind) line
 
-abbrev pub expect_word : ExpectKind → List ℕ
+abbrev pub expect_word : ExpectFaultKind → List ℕ
 expect_word expect.Header = codes "Header"
 expect_word expect.BadLine = codes "BadLine"
 expect_word expect.NoName = codes "NoName"

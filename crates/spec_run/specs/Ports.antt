@@ -8,8 +8,8 @@ use Rattle.spec_script.specs.declared.value.Value.{Value}
 use Rattle.spec_script.specs.declared.value.Value.TheVariants.{Int, Text}
 use Rattle.spec_tree.specs.declared.built_ins.Range.{Range}
 use Rattle.spec_tree.specs.declared.built_ins.Range.TheVariants as range
-use Rattle.spec_run.specs.declared.fault.PortId.{PortId}
-use Rattle.spec_run.specs.declared.fault.PortId.TheVariants as port
+use Rattle.spec_run.specs.declared.fault.NumericPort.{NumericPort}
+use Rattle.spec_run.specs.declared.fault.NumericPort.TheVariants as port
 use Rattle.spec_run.specs.declared.memory.Memo.{Memo}
 use Rattle.spec_run.specs.declared.memory.Memo.TheVariants.{Nothing, Index, Counts, Chosen, Turns, Since, Finished, Recoveries, Rotation, Pace}
 use Rattle.spec_run.specs.declared.status.Answer.{Answer}
@@ -92,23 +92,23 @@ is_negative (Some c) = int_lt c (pos 0)
 is_negative None = false
 
 -- a Parallel starts with both of its counts; the success count is read first
-abbrev pub parallel_start : Option ℕ → Bool → Option ℕ → Result Memo PortId
+abbrev pub parallel_start : Option ℕ → Bool → Option ℕ → Result Memo NumericPort
 parallel_start (Some need) skips (Some most) = Ok (Counts (record { need = need; most = most; skips = skips; successes = 0; failures = 0; skipped = 0 }))
 parallel_start (Some need) skips None = Err port.FailureCount
 parallel_start None skips most = Err port.SuccessCount
 
 -- a Retry or Repeat starts with no turn done
-abbrev pub turns_start : PortId → Option ℤ → Result Memo PortId
+abbrev pub turns_start : NumericPort → Option ℤ → Result Memo NumericPort
 turns_start port (Some limit) = Ok (Turns (record { done = 0; limit = limit }))
 turns_start port None = Err port
 
 -- a Timeout or Delay starts at this moment
-abbrev pub since_start : PortId → ℕ → Option ℤ → Result Memo PortId
+abbrev pub since_start : NumericPort → ℕ → Option ℤ → Result Memo NumericPort
 since_start port now (Some length) = Ok (Since (record { first = now; length = nat_abs length }))
 since_start port now None = Err port
 
 -- a RecoveryNode starts with its first child and no recovery done
-abbrev pub recoveries_start : Option ℤ → Result Memo PortId
+abbrev pub recoveries_start : Option ℤ → Result Memo NumericPort
 recoveries_start (Some limit) = Ok (Recoveries (record { done = 0; limit = nat_abs limit; recovers = false }))
 recoveries_start None = Err port.NumberOfRetries
 
@@ -124,17 +124,17 @@ rate_by site s (Some given) = rate_given given (value_by site s (Some given))
 rate_by site s None = None
 
 -- a RateController starts at this moment, and its child is due
-abbrev pub pace_start : ℕ → Option ℕ → Result Memo PortId
+abbrev pub pace_start : ℕ → Option ℕ → Result Memo NumericPort
 pace_start now (Some rate) = Ok (Pace (record { first = now; rate = rate; due = true }))
 pace_start now None = Err port.Hz
 
 -- a RateController that has a pace goes on with it, and reads no port
-abbrev pub next_pace : Memo → Result Memo PortId → Result Memo PortId
+abbrev pub next_pace : Memo → Result Memo NumericPort → Result Memo NumericPort
 next_pace (Pace p) start = Ok (Pace p)
 next_pace memo start = start
 
 -- the memo with which a node starts, from the memo that it has; or the port that holds no number of its range
-abbrev pub new_memo : Kind → Site → Memo → State → Result Memo PortId
+abbrev pub new_memo : Kind → Site → Memo → State → Result Memo NumericPort
 new_memo Sequence site memo s = Ok (Index 0 false)
 new_memo Fallback site memo s = Ok (Index 0 false)
 new_memo ReactiveSequence site memo s = Ok (Index 0 false)
@@ -186,18 +186,18 @@ then_skip site s (Some given) = truth_given given (value_by site s (Some given))
 then_skip site s None = None
 
 -- what is picked for it: 1 for true and 0 for false, or the port is bad
-abbrev pub skip_picked : Option Bool → Result ℕ PortId
+abbrev pub skip_picked : Option Bool → Result ℕ NumericPort
 skip_picked (Some true) = Ok 1
 skip_picked (Some false) = Ok 0
 skip_picked None = Err port.ThenSkip
 
 -- a RunOnce reads `then_skip` where it has a mark
-abbrev pub run_once_picked : Option Answer → Option Bool → Result ℕ PortId
+abbrev pub run_once_picked : Option Answer → Option Bool → Result ℕ NumericPort
 run_once_picked (Some a) skip = skip_picked skip
 run_once_picked None skip = Ok 0
 
 -- what is picked for a visit: the child that a Switch selects, and for a RunOnce with a mark whether it skips
-abbrev pub picked : Kind → Site → Memo → State → Result ℕ PortId
+abbrev pub picked : Kind → Site → Memo → State → Result ℕ NumericPort
 picked (Switch cases) site memo s = Ok (selected site s cases (text_at site s (codes "variable")))
 picked RunOnce site memo s = run_once_picked (mark_of memo) (then_skip site s (given_at site (codes "then_skip")))
 picked _ site memo s = Ok 0

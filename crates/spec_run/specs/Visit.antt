@@ -2,7 +2,7 @@
 use Rattle.std.specs.Prelude.{ℕ, ◌+◌, List, [], ◌∷◌, ◌++◌, length, slice_set, Bool, true, false, Option, Some, None, Result, Ok, Err}
 use Rattle.spec_run.specs.declared.fault.Cause.TheVariants.{BadPort}
 use Rattle.spec_run.specs.declared.fault.NodeFault.{NodeFault}
-use Rattle.spec_run.specs.declared.fault.PortId.{PortId}
+use Rattle.spec_run.specs.declared.fault.NumericPort.{NumericPort}
 use Rattle.spec_run.specs.declared.leaf.Phase.TheVariants as phase
 use Rattle.spec_run.specs.declared.memory.Memo.{Memo}
 use Rattle.spec_run.specs.declared.memory.Memo.TheVariants.{Nothing, Finished, Pace}
@@ -86,7 +86,7 @@ reset_by old site m s =
 -- ---- The rule
 
 -- a bad port is a fault of its node
-abbrev pub or_bad_port : {A : Type 0} → ℕ → Result A PortId → Result A NodeFault
+abbrev pub or_bad_port : {A : Type 0} → ℕ → Result A NumericPort → Result A NodeFault
 or_bad_port uid (Ok a) = Ok a
 or_bad_port uid (Err port) = Err (fault_of_node uid (BadPort port))
 

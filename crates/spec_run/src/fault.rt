@@ -1,6 +1,6 @@
 /// A numeric port that can be read from a blackboard entry.
 #[derive(Clone, Copy, Debug, PartialEq, Eq)]
-pub enum PortId {
+pub enum NumericPort {
     SuccessCount,
     FailureCount,
     NumAttempts,
@@ -32,7 +32,7 @@ pub enum Cause {
     /// The length of an action is not 0 to 1,000,000,000,000 milliseconds.
     Range,
     /// A numeric port holds no number of its range.
-    BadPort { port: PortId },
+    BadPort { port: NumericPort },
 }
 
 /// A fault of the node with this uid.

@@ -12,7 +12,7 @@ mod note;
 mod status;
 
 pub use block::{Block, Header};
-pub use fault::{Cause, NodeFault, PortId, RunFault};
+pub use fault::{Cause, NodeFault, NumericPort, RunFault};
 pub use join_fault::JoinFault;
 pub use leaf::{DriverKind, Instance, Phase, Reply, Totals};
 pub use memory::{Counts, Memo, Memory, Pace, Recoveries, Rotation, Since, Turns};

@@ -29,12 +29,12 @@ stmt_names (Change op name e) = name ∷ names_of e
 stmt_names (Plain e) = names_of e
 
 -- names, with one more where it is not yet among them
-abbrev pub with_name : List (List ℕ) → List ℕ → List (List ℕ)
-with_name names name = if list_any (bytes_eq name) names then names else names ++ name ∷ []
+abbrev pub append_once : List (List ℕ) → List ℕ → List (List ℕ)
+append_once names name = if list_any (bytes_eq name) names then names else names ++ name ∷ []
 
 -- the names of statements, each once, in the order in which they first stand there
 abbrev pub distinct_names : List Stmt → List (List ℕ)
-distinct_names stmts = fold with_name [] (flat_map stmt_names stmts)
+distinct_names stmts = fold append_once [] (flat_map stmt_names stmts)
 
 -- how many text literals stand in an expression, where it is known of its parts
 abbrev pub texts_step : Expr-F ℕ → ℕ

@@ -5,7 +5,7 @@ use Rattle.spec_serve.specs.declared.request_fault.RequestFault.{RequestFault}
 use Rattle.spec_serve.specs.declared.request_fault.RequestFault.TheVariants as request
 use Rattle.spec_session.specs.declared.ended.Misuse.{Misuse}
 use Rattle.spec_session.specs.declared.ended.Misuse.TheVariants as misuse
-use Rattle.spec_world_file.specs.declared.world_fault.WorldKind.TheVariants as line
+use Rattle.spec_world_file.specs.declared.world_fault.WorldFaultKind.TheVariants as line
 
 -- the word of what is wrong
 abbrev pub request_word : RequestFault → List ℕ

@@ -4,8 +4,8 @@ use Rattle.std.specs.Prelude.{◌≡◌, ℕ, Bool, true, false, List, [], ◌�
 use Rattle.spec_serve.specs.declared.request.Request.{Request}
 use Rattle.spec_serve.specs.declared.request.Request.TheVariants.{At, Finish, Make}
 use Rattle.spec_world.specs.declared.world.Event.{Event}
-use Rattle.spec_world_file.specs.declared.world_fault.WorldKind.{WorldKind}
-use Rattle.spec_world_file.specs.declared.world_fault.WorldKind.TheVariants.{BadLine}
+use Rattle.spec_world_file.specs.declared.world_fault.WorldFaultKind.{WorldFaultKind}
+use Rattle.spec_world_file.specs.declared.world_fault.WorldFaultKind.TheVariants.{BadLine}
 use Rattle.spec_world_file.specs.WorldFile.{AfterForm, AtLine, HaltLine, Line, Reading, SetLine, TellLine, TickLine, content, line_in}
 
 -- the forms of lines that a host may send: a moment, and the events
@@ -27,16 +27,16 @@ request_of [] = At
 request_of (event ∷ events) = Make event
 
 -- what is asked and what the next line is read after, where a line has left this; the event is no longer part of it
-abbrev pub asked : Result Reading WorldKind → Result (Request × Reading) WorldKind
+abbrev pub asked : Result Reading WorldFaultKind → Result (Request × Reading) WorldFaultKind
 asked (Ok r) = Ok (request_of r.events, record r { events = [] })
 asked (Err kind) = Err kind
 
 -- what the content of a line asks, where that is no finish
-pub record Asks (r : Reading) (text : List ℕ) (asks : Result (Request × Reading) WorldKind) : Type 0 where
-  pub said : Result Reading WorldKind
+pub record Asks (r : Reading) (text : List ℕ) (asks : Result (Request × Reading) WorldFaultKind) : Type 0 where
+  pub said : Result Reading WorldFaultKind
   pub after : AfterForm r (request_line text) said
   pub is : asks ≡ asked said
 
 -- what the text of a line asks
-abbrev pub RequestReads : Reading → List ℕ → Result (Request × Reading) WorldKind → Type 0
+abbrev pub RequestReads : Reading → List ℕ → Result (Request × Reading) WorldFaultKind → Type 0
 RequestReads r text asks = MatchBool (bytes_eq (content text) (codes "finish")) (asks ≡ Ok (Finish, r)) (Asks r (content text) asks)

@@ -18,7 +18,7 @@ use Rattle.spec_world.specs.declared.world.RowSort.TheVariants.{Sensed, Told}
 use Rattle.spec_world.specs.declared.world.World.{World}
 use Rattle.spec_world.specs.Worlds.{outs_told}
 use Rattle.spec_world_file.specs.declared.world_fault.WorldFault.{WorldFault}
-use Rattle.spec_world_file.specs.declared.world_fault.WorldKind.TheVariants.{TooMany}
+use Rattle.spec_world_file.specs.declared.world_fault.WorldFaultKind.TheVariants.{TooMany}
 
 -- ---- What nodes say of an ID
 

@@ -8,7 +8,7 @@ use Rattle.spec_program.specs.declared.tree_fault.TreeFault.{TreeFault}
 use Rattle.spec_program.specs.Files.{Contents, Named}
 use Rattle.spec_program.specs.Gives.{is_too_long}
 use Rattle.spec_program.specs.Output.{Output, line_of}
-use Rattle.spec_program.specs.Refused.{join_refused, tree_refused, world_refused}
+use Rattle.spec_program.specs.RefusalOutputs.{join_refused, tree_refused, world_refused}
 use Rattle.spec_program.specs.TreeFiles.{TreeReads}
 use Rattle.spec_program.specs.Words.{Served}
 use Rattle.spec_run.specs.declared.join_fault.JoinFault.{JoinFault}

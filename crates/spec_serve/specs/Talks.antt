@@ -19,7 +19,7 @@ use Rattle.spec_session.specs.Events.{after_step, event_step, finish_step, misus
 use Rattle.spec_session.specs.Labels.{labels}
 use Rattle.spec_session.specs.Sessions.{Sitting}
 use Rattle.spec_world.specs.declared.world.Event.{Event}
-use Rattle.spec_world_file.specs.declared.world_fault.WorldKind.{WorldKind}
+use Rattle.spec_world_file.specs.declared.world_fault.WorldFaultKind.{WorldFaultKind}
 use Rattle.spec_world_file.specs.WorldFile.{Reading}
 
 -- ---- The lines of an input
@@ -147,7 +147,7 @@ AskedSaid At number s Rest said = (rest : Said) × Rest s rest × (said ≡ then
 AskedSaid (Make event) number s Rest said = TakenSaid (misuse s event) number s event Rest said
 
 -- this is said to the line of a number that reads as this
-abbrev pub LineSaid : Result (Request × Reading) WorldKind → ℕ → Sitting → (Reading → Ahead) → Said → Type 0
+abbrev pub LineSaid : Result (Request × Reading) WorldFaultKind → ℕ → Sitting → (Reading → Ahead) → Said → Type 0
 LineSaid (Ok asked) number s Rest said = AskedSaid asked.0 number s (Rest asked.1) said
 LineSaid (Err kind) number s Rest said = said ≡ refuse (request.Line kind) number s
 
@@ -160,7 +160,7 @@ abbrev pub LinesSaid : List (List ℕ) → Option RequestFault → ℕ → Readi
 LinesSaid [] broken number r s said = said ≡ at_end broken number s
 LinesSaid (text ∷ texts) broken number r s said =
     MatchBool (nat_lt last_line number) (said ≡ refuse request.TooMany number s)
-    ((asks : Result (Request × Reading) WorldKind) × RequestReads r text asks
+    ((asks : Result (Request × Reading) WorldFaultKind) × RequestReads r text asks
     × LineSaid asks number s (λ left after rest. LinesSaid texts broken (number + 1) left after rest) said)
 
 -- this is said to what is heard, where lines are read after what was read

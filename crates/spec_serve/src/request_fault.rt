@@ -1,10 +1,10 @@
-use spec_world_file::WorldKind;
+use spec_world_file::WorldFaultKind;
 
 /// Why a line of a host is refused.
 #[derive(Clone, Copy, Debug, PartialEq, Eq)]
 pub enum RequestFault {
     /// It is none of the lines that a host may send, or a world script may not have it there.
-    Line(WorldKind),
+    Line(WorldFaultKind),
     /// No runner has this number.
     NoRunner,
     /// No leaf that can be told something has this uid.

@@ -26,8 +26,8 @@ use Rattle.spec_world.specs.declared.world.What.{What}
 use Rattle.spec_world.specs.declared.world.What.TheVariants.{Tick, Halt, Change, Tell}
 use Rattle.spec_world.specs.declared.world.World.{World}
 use Rattle.spec_world_file.specs.declared.world_fault.WorldFault.{WorldFault}
-use Rattle.spec_world_file.specs.declared.world_fault.WorldKind.{WorldKind}
-use Rattle.spec_world_file.specs.declared.world_fault.WorldKind.TheVariants.{Header, BadLine, Range, DoubleName, NoName, MomentBack, TooMany}
+use Rattle.spec_world_file.specs.declared.world_fault.WorldFaultKind.{WorldFaultKind}
+use Rattle.spec_world_file.specs.declared.world_fault.WorldFaultKind.TheVariants.{Header, BadLine, Range, DoubleName, NoName, MomentBack, TooMany}
 use Rattle.spec_tree.specs.Limits.{last_moment, most_effects, most_events, most_facts, most_goals, most_needs, most_outcomes, most_outputs, most_ports, most_rows, most_runners, most_text_bytes}
 use Rattle.spec_tree.specs.Names.{is_reserved}
 use Rattle.spec_world.specs.Worlds.{is_name, is_comparison, is_modelled, names_of_facts, ids_of_rows, ports_told}
@@ -487,27 +487,27 @@ plain_row id ports sort = record { id = id; ports = ports; sort = sort; needs = 
 -- ---- The world after a line: its faults in their order, or what it adds
 
 -- one more fact, of a name that no other has
-abbrev pub with_fact : List ℕ → ℤ → Reading → Result Reading WorldKind
+abbrev pub with_fact : List ℕ → ℤ → Reading → Result Reading WorldFaultKind
 with_fact name opening r =
     if list_any (bytes_eq name) (names_of_facts r.facts) then Err DoubleName
     else if nat_le most_facts (length r.facts) then Err TooMany
     else Ok (record r { facts = r.facts ++ record { name = name; opening = opening } ∷ [] })
 
 -- one more row, which is closed
-abbrev pub with_row : Row → Reading → Result Reading WorldKind
+abbrev pub with_row : Row → Reading → Result Reading WorldFaultKind
 with_row row r = if nat_le most_rows (length r.rows) then Err TooMany else Ok (record r { rows = r.rows ++ row ∷ [] })
 
 -- one more row, which is open
-abbrev pub with_action : Row → Reading → Result Reading WorldKind
+abbrev pub with_action : Row → Reading → Result Reading WorldFaultKind
 with_action row r = if nat_le most_rows (length r.rows) then Err TooMany else Ok (record r { open_row = Some row })
 
 -- what is said of the number that a name has; a name without one is not known
-abbrev pub numbered : {X : Type 0} → Option ℕ → (ℕ → Result X WorldKind) → Result X WorldKind
+abbrev pub numbered : {X : Type 0} → Option ℕ → (ℕ → Result X WorldFaultKind) → Result X WorldFaultKind
 numbered None said = Err NoName
 numbered (Some n) said = said n
 
 -- a condition that compares a fact
-abbrev pub with_comparison : List ℕ → List ℕ → Cmp → ℤ → Reading → Result Reading WorldKind
+abbrev pub with_comparison : List ℕ → List ℕ → Cmp → ℤ → Reading → Result Reading WorldFaultKind
 with_comparison id fact op value r =
     if is_taken r.rows id then Err DoubleName
     else numbered (fact_number r.facts fact) (λ n. with_row (plain_row id [] (Is n op value)) r)
@@ -520,7 +520,7 @@ knows_sort ports facts (TimedBy length fails) = knows_all ports facts length
 knows_sort ports facts _ = true
 
 -- a row of its own name, whose ports differ, and whose names are known
-abbrev pub with_head : Head → (Row → Reading → Result Reading WorldKind) → RowSort → Reading → Result Reading WorldKind
+abbrev pub with_head : Head → (Row → Reading → Result Reading WorldFaultKind) → RowSort → Reading → Result Reading WorldFaultKind
 with_head head add sort r =
     if is_taken r.rows head.id || repeats [] head.ports then Err DoubleName
     else if not (knows_sort head.ports r.facts sort) then Err NoName
@@ -528,12 +528,12 @@ with_head head add sort r =
     else add (plain_row head.id head.ports sort) r
 
 -- the row that is open becomes this one
-abbrev pub with_open_row : Reading → Result Row WorldKind → Result Reading WorldKind
+abbrev pub with_open_row : Reading → Result Row WorldFaultKind → Result Reading WorldFaultKind
 with_open_row r (Ok row) = Ok (record r { open_row = Some row })
 with_open_row r (Err kind) = Err kind
 
 -- an action that fails where this expression is not 0: it has no other such line
-abbrev pub fails_by : RowSort → Row → Bool → Expr → Result Row WorldKind
+abbrev pub fails_by : RowSort → Row → Bool → Expr → Result Row WorldFaultKind
 fails_by (Timed ms None) row known e = if known then Ok (record row { sort = Timed ms (Some e) }) else Err NoName
 fails_by (Timed ms (Some other)) row known e = Err DoubleName
 fails_by (TimedBy length None) row known e = if known then Ok (record row { sort = TimedBy length (Some e) }) else Err NoName
@@ -541,11 +541,11 @@ fails_by (TimedBy length (Some other)) row known e = Err DoubleName
 fails_by _ row known e = Err BadLine
 
 -- a row that fails where this expression is not 0
-abbrev pub row_with_fails : List Fact → Expr → Row → Result Row WorldKind
+abbrev pub row_with_fails : List Fact → Expr → Row → Result Row WorldFaultKind
 row_with_fails facts e row = fails_by row.sort row (knows_all row.ports facts e) e
 
 -- an action that is told how it ended, with one more output for which it may be told a value
-abbrev pub with_name : RowSort → Row → List ℕ → Result Row WorldKind
+abbrev pub with_name : RowSort → Row → List ℕ → Result Row WorldFaultKind
 with_name (Told outs) row port =
     if list_any (bytes_eq port) outs then Err DoubleName
     else if nat_le most_outputs (length outs) then Err TooMany
@@ -553,25 +553,25 @@ with_name (Told outs) row port =
 with_name _ row port = Err BadLine
 
 -- a row with one more of these outputs
-abbrev pub row_with_name : List ℕ → Row → Result Row WorldKind
+abbrev pub row_with_name : List ℕ → Row → Result Row WorldFaultKind
 row_with_name port row = with_name row.sort row port
 
 -- a row with one more need, of the condition of this number
-abbrev pub row_with_need : ℕ → Row → Result Row WorldKind
+abbrev pub row_with_need : ℕ → Row → Result Row WorldFaultKind
 row_with_need n row =
     if list_any (nat_eq n) row.needs then Err DoubleName
     else if nat_le most_needs (length row.needs) then Err TooMany
     else Ok (record row { needs = row.needs ++ n ∷ [] })
 
 -- a row with one more effect, on a fact that no other one is on
-abbrev pub row_with_effect : Set → Row → Result Row WorldKind
+abbrev pub row_with_effect : Set → Row → Result Row WorldFaultKind
 row_with_effect effect row =
     if list_any (λ set. nat_eq effect.fact set.fact) row.sets then Err DoubleName
     else if nat_le most_effects (length row.sets) then Err TooMany
     else Ok (record row { sets = row.sets ++ effect ∷ [] })
 
 -- a row with one more output, whose names are known
-abbrev pub with_output : Out → Bool → Row → Result Row WorldKind
+abbrev pub with_output : Out → Bool → Row → Result Row WorldFaultKind
 with_output out known row =
     if list_any (λ other. bytes_eq out.port other.port) row.outs then Err DoubleName
     else if not known then Err NoName
@@ -579,26 +579,26 @@ with_output out known row =
     else Ok (record row { outs = row.outs ++ out ∷ [] })
 
 -- a row with one more output, the expression for the port of this name
-abbrev pub row_with_out : List Fact → List ℕ → Expr → Row → Result Row WorldKind
+abbrev pub row_with_out : List Fact → List ℕ → Expr → Row → Result Row WorldFaultKind
 row_with_out facts port e row = with_output (record { port = port; expr = e }) (knows_all row.ports facts e) row
 
 -- one more goal, the condition of this number
-abbrev pub with_goal : ℕ → Reading → Result Reading WorldKind
+abbrev pub with_goal : ℕ → Reading → Result Reading WorldFaultKind
 with_goal n r =
     if list_any (nat_eq n) r.goals then Err DoubleName
     else if nat_le most_goals (length r.goals) then Err TooMany
     else Ok (record r { goals = r.goals ++ n ∷ [] })
 
 -- so many runners, which no earlier line says
-abbrev pub with_runners : ℕ → Reading → Result Reading WorldKind
+abbrev pub with_runners : ℕ → Reading → Result Reading WorldFaultKind
 with_runners count r = if is_some r.runners then Err DoubleName else Ok (record r { runners = Some count })
 
 -- a moment that is not before the last one
-abbrev pub with_moment : ℕ → Reading → Result Reading WorldKind
+abbrev pub with_moment : ℕ → Reading → Result Reading WorldFaultKind
 with_moment ms r = if nat_lt ms r.moment then Err MomentBack else Ok (record r { moment = ms })
 
 -- one more event, at the last moment
-abbrev pub with_event : What → Reading → Result Reading WorldKind
+abbrev pub with_event : What → Reading → Result Reading WorldFaultKind
 with_event what r =
     if nat_le most_events (length r.events) then Err TooMany
     else Ok (record r { events = r.events ++ record { at = r.moment; what = what } ∷ [] })
@@ -618,24 +618,24 @@ abbrev pub steps_to : ℕ → ℕ → Reading → ℕ
 steps_to last ms r = (last - r.moment) / ms
 
 -- rounds from the last moment on, up to and with this end; the last moment is then that of the last round
-abbrev pub with_rounds : ℕ → ℕ → List What → Reading → Result Reading WorldKind
+abbrev pub with_rounds : ℕ → ℕ → List What → Reading → Result Reading WorldFaultKind
 with_rounds last ms whats r =
     if nat_lt last r.moment then Err MomentBack
     else if nat_lt most_events (length r.events + (steps_to last ms r + 1) * length whats) then Err TooMany
     else Ok (record r { events = r.events ++ rounds (steps_to last ms r + 1) r.moment ms whats; moment = r.moment + steps_to last ms r * ms })
 
 -- what is said, where the number of the line stands in its range
-abbrev pub ranged : Bool → Result Reading WorldKind → Result Reading WorldKind
+abbrev pub ranged : Bool → Result Reading WorldFaultKind → Result Reading WorldFaultKind
 ranged true said = said
 ranged false said = Err Range
 
 -- what is said where the line stands in its place
-abbrev pub placed : Bool → Result Reading WorldKind → Result Reading WorldKind
+abbrev pub placed : Bool → Result Reading WorldFaultKind → Result Reading WorldFaultKind
 placed true said = said
 placed false said = Err BadLine
 
 -- a telling of these outputs: each stands once, and no text is too long
-abbrev pub with_telling : List ToldOut → Result Reading WorldKind → Result Reading WorldKind
+abbrev pub with_telling : List ToldOut → Result Reading WorldFaultKind → Result Reading WorldFaultKind
 with_telling outs said =
     if repeats [] (ports_told outs) then Err DoubleName
     else if nat_lt most_outputs (length outs) || list_any (λ out. is_long out.value) outs then Err TooMany
@@ -655,34 +655,34 @@ where_modelled None = None
 where_modelled (Some row) = if is_modelled row.sort then Some row else None
 
 -- what becomes of the open action; where none is open, the line stands in a wrong place
-abbrev pub with_open : Option Row → Reading → (Row → Result Row WorldKind) → Result Reading WorldKind
+abbrev pub with_open : Option Row → Reading → (Row → Result Row WorldFaultKind) → Result Reading WorldFaultKind
 with_open None r add = Err BadLine
 with_open (Some row) r add = with_open_row r (add row)
 
 -- what is said by what a text reads as, which is to be an expression
-abbrev pub by_expr : Option Expr → (Expr → Result Reading WorldKind) → Result Reading WorldKind
+abbrev pub by_expr : Option Expr → (Expr → Result Reading WorldFaultKind) → Result Reading WorldFaultKind
 by_expr None said = Err BadLine
 by_expr (Some e) said = said e
 
 -- this is said of the expression that a text is
-pub record SaysOf (text : List ℕ) (rule : Expr → Result Reading WorldKind) (said : Result Reading WorldKind) : Type 0 where
+pub record SaysOf (text : List ℕ) (rule : Expr → Result Reading WorldFaultKind) (said : Result Reading WorldFaultKind) : Type 0 where
   pub expr : Option Expr
   pub reads : ReadsNumeric text expr
   pub is : said ≡ by_expr expr rule
 
 -- what is said by the outputs that a text tells, which is to be of that form
-abbrev pub by_outs : Option (List ToldOut) → (List ToldOut → Result Reading WorldKind) → Result Reading WorldKind
+abbrev pub by_outs : Option (List ToldOut) → (List ToldOut → Result Reading WorldFaultKind) → Result Reading WorldFaultKind
 by_outs None said = Err BadLine
 by_outs (Some outs) said = said outs
 
 -- this is said of the outputs that a text tells
-pub record SaysOfOuts (text : List ℕ) (rule : List ToldOut → Result Reading WorldKind) (said : Result Reading WorldKind) : Type 0 where
+pub record SaysOfOuts (text : List ℕ) (rule : List ToldOut → Result Reading WorldFaultKind) (said : Result Reading WorldFaultKind) : Type 0 where
   pub outs : Option (List ToldOut)
   pub reads : ReadsTold text outs
   pub is : said ≡ by_outs outs rule
 
 -- after a line; every line but those that add to an action closes the open one
-abbrev pub AfterLine : Reading → Line → Result Reading WorldKind → Type 0
+abbrev pub AfterLine : Reading → Line → Result Reading WorldFaultKind → Type 0
 AfterLine r (FactLine name opening) said = said ≡ ranged (is_int opening) (with_fact name opening (closed r))
 AfterLine r (IsLine id fact op value) said = said ≡ ranged (is_int value) (with_comparison id fact op value (closed r))
 AfterLine r (WhenLine head expr) said = SaysOf expr (λ e. with_head head with_row (When e) (closed r)) said
@@ -715,7 +715,7 @@ AfterLine r (EveryLine ms last parts) said =
     (with_rounds (nat_abs last) (nat_abs ms) (map what_in parts) (closed r))
 
 -- after what may be a line of one of the forms
-abbrev pub AfterForm : Reading → Option Line → Result Reading WorldKind → Type 0
+abbrev pub AfterForm : Reading → Option Line → Result Reading WorldFaultKind → Type 0
 AfterForm r None said = said ≡ Err BadLine
 AfterForm r (Some line) said = AfterLine r line said
 
@@ -724,11 +724,11 @@ abbrev pub is_ignored : List ℕ → Bool
 is_ignored text = length text == 0 || starts_with nat_eq text (codes "#")
 
 -- after the content of a line
-abbrev pub AfterContent : Reading → List ℕ → Result Reading WorldKind → Type 0
+abbrev pub AfterContent : Reading → List ℕ → Result Reading WorldFaultKind → Type 0
 AfterContent r text said = MatchBool (is_ignored text) (said ≡ Ok r) (AfterForm r (line_in text) said)
 
 -- after the text of a line
-abbrev pub AfterText : Reading → List ℕ → Result Reading WorldKind → Type 0
+abbrev pub AfterText : Reading → List ℕ → Result Reading WorldFaultKind → Type 0
 AfterText r text said = AfterContent r (content text) said
 
 -- what lines of a host are read after: the facts and the moment that were read, and as many runners as there may be
@@ -738,7 +738,7 @@ for_host r = record nothing_read { facts = r.facts; runners = Some most_runners;
 -- ---- The world of a file
 
 -- the lines after one are read, or it is the first faulty one
-abbrev pub GoesOn : ℕ → (Reading → Type 0) → Result Reading WorldFault → Result Reading WorldKind → Type 0
+abbrev pub GoesOn : ℕ → (Reading → Type 0) → Result Reading WorldFault → Result Reading WorldFaultKind → Type 0
 GoesOn number rest said (Ok r) = rest r
 GoesOn number rest said (Err kind) = said ≡ Err (record { line = number; kind = kind })
 
@@ -746,7 +746,7 @@ GoesOn number rest said (Err kind) = said ≡ Err (record { line = number; kind 
 abbrev pub AfterLines : ℕ → List (List ℕ) → Reading → Result Reading WorldFault → Type 0
 AfterLines number [] r said = said ≡ Ok r
 AfterLines number (text ∷ texts) r said =
-    (next : Result Reading WorldKind) × AfterText r text next × GoesOn number (λ left. AfterLines (number + 1) texts left said) said next
+    (next : Result Reading WorldFaultKind) × AfterText r text next × GoesOn number (λ left. AfterLines (number + 1) texts left said) said next
 
 -- the world of all that was read
 abbrev pub world_of : Reading → World

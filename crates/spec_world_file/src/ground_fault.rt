@@ -1,4 +1,4 @@
-use crate::world_fault::WorldKind;
+use crate::world_fault::WorldFaultKind;
 
 /// What is wrong with a ground file. The first faulty line counts, and of one line the first fault in this order. Lines
 /// are counted from 1, in the ground file.
@@ -22,5 +22,5 @@ pub enum GroundFault {
     /// The world script would have more than 1,048,576 bytes; how many it would have.
     TooManyGround { size: u64 },
     /// The world script has a fault; its kind, and the line of the ground file from which its line comes.
-    World { line: u32, kind: WorldKind },
+    World { line: u32, kind: WorldFaultKind },
 }

@@ -9,4 +9,4 @@ mod world_fault;
 pub use ground_fault::GroundFault;
 pub use open_block::OpenBlock;
 pub use sort::Sort;
-pub use world_fault::{WorldFault, WorldKind};
+pub use world_fault::{WorldFault, WorldFaultKind};

@@ -1,7 +1,7 @@
 /// What is wrong with a line of a world script. Where a line has several of these, the first in
 /// this order counts.
 #[derive(Clone, Copy, Debug, PartialEq, Eq)]
-pub enum WorldKind {
+pub enum WorldFaultKind {
     /// The first line is not `bt-world 1`, or there is no line.
     Header,
     /// The line has none of the forms, or stands in a wrong place.
@@ -22,5 +22,5 @@ pub enum WorldKind {
 #[derive(Clone, Copy, Debug, PartialEq, Eq)]
 pub struct WorldFault {
     pub line: u32,
-    pub kind: WorldKind,
+    pub kind: WorldFaultKind,
 }

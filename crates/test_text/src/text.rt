@@ -4,7 +4,7 @@ use crate::rows::{compare, nodes_told};
 use base_outside::{MemSink, SureSink};
 use base_texts::{NoMemory, Txt};
 use run_arena::{Block, block_for};
-use spec_run::{Answer, Cause, Header, Note, PortId, Status};
+use spec_run::{Answer, Cause, Header, Note, NumericPort, Status};
 use spec_script::Value;
 use spec_tree::Tree;
 use spec_world::World;
@@ -256,7 +256,7 @@ fn faults_have_their_lines(rt: HostRuntime) -> Result<(), NoMemory> {
                 6,
                 12,
                 Cause::BadPort {
-                    port: PortId::DelayMsec,
+                    port: NumericPort::DelayMsec,
                 },
                 "fault 6 12 BadPort delay_msec\n",
             ),

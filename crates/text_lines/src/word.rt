@@ -4,23 +4,23 @@ ghost use Rattle.spec_output.specs.Lines.{cause_words, port_word, value_words};
 use crate::names::Names;
 use crate::put::{put_bytes, put_quoted, put_signed};
 use base_texts::NoMemory;
-use spec_run::{Cause, PortId};
+use spec_run::{Cause, NumericPort};
 use spec_script::Value;
 
 /// The name of the port, as a fault tells it.
-pub fn port_word(port: PortId) -> &'static [u8]
+pub fn port_word(port: NumericPort) -> &'static [u8]
     ensures { result.now ≡ port_word port }
 {
     match port {
-        PortId::SuccessCount => b"success_count",
-        PortId::FailureCount => b"failure_count",
-        PortId::NumAttempts => b"num_attempts",
-        PortId::NumCycles => b"num_cycles",
-        PortId::Msec => b"msec",
-        PortId::DelayMsec => b"delay_msec",
-        PortId::ThenSkip => b"then_skip",
-        PortId::NumberOfRetries => b"number_of_retries",
-        PortId::Hz => b"hz",
+        NumericPort::SuccessCount => b"success_count",
+        NumericPort::FailureCount => b"failure_count",
+        NumericPort::NumAttempts => b"num_attempts",
+        NumericPort::NumCycles => b"num_cycles",
+        NumericPort::Msec => b"msec",
+        NumericPort::DelayMsec => b"delay_msec",
+        NumericPort::ThenSkip => b"then_skip",
+        NumericPort::NumberOfRetries => b"number_of_retries",
+        NumericPort::Hz => b"hz",
     }
 }
 

@@ -8,8 +8,8 @@ use Rattle.std.proofs.lemmas.Bool.Decides.{Decides-int_eq}
 use Rattle.std.proofs.lemmas.Slice.Eq.{bytes_eq-Decides}
 use Rattle.spec_script.specs.declared.value.Value.TheVariants.{Int, Text}
 use Rattle.spec_tree.specs.declared.built_ins.Range.TheVariants as range
-use Rattle.spec_run.specs.declared.fault.PortId.{PortId}
-use Rattle.spec_run.specs.declared.fault.PortId.TheVariants as port
+use Rattle.spec_run.specs.declared.fault.NumericPort.{NumericPort}
+use Rattle.spec_run.specs.declared.fault.NumericPort.TheVariants as port
 use Rattle.spec_run.specs.declared.memory.Memo.{Memo}
 use Rattle.spec_run.specs.declared.memory.Memo.TheVariants.{Nothing, Index, Turns as Turned, Since as Begun, Finished, Recoveries as Recovered, Rotation as Rotating, Pace as Paced}
 use Rattle.spec_run.specs.declared.status.Answer.{Answer}
@@ -75,7 +75,7 @@ module _ (site : Site) (s : State) (children : List Answers) where
   limit_is (Some (Lit (Int m))) (pos n) e fit = let is : m ≡ pos n = cc in subst (λ (z : ℤ). int_eq z (negsuc 0) ≡ false) (sym is) refl
   limit_is (Some (Lit (Int m))) (negsuc n) e fit = let is : m ≡ negsuc n = cc in subst (λ (z : ℤ). int_eq z (negsuc 0) ≡ true) (sym is) (negative_only n fit)
 
-  turns_start_fits : (id : PortId) (o : Option PortValue) (number : Option ℤ) (P : Memo → Type 0) → number_by (value_by site s o) ≡ number → ((n : ℤ) → IsLimit o n → P (Turned (record { done = 0; limit = n }))) → IfOk (turns_start id (within range.Turns number)) P
+  turns_start_fits : (id : NumericPort) (o : Option PortValue) (number : Option ℤ) (P : Memo → Type 0) → number_by (value_by site s o) ≡ number → ((n : ℤ) → IsLimit o n → P (Turned (record { done = 0; limit = n }))) → IfOk (turns_start id (within range.Turns number)) P
   turns_start_fits id o None P is goes = tt
   turns_start_fits id o (Some n) P is goes =
       cond_both (fits range.Turns (Int n)) (Some n) None (λ (x : Option ℤ). IfOk (turns_start id x) P) (λ fit. goes n (limit_is o n is fit)) (λ _. tt)
@@ -89,7 +89,7 @@ module _ (site : Site) (s : State) (children : List Answers) where
   length_is (Some (Lit (Text t))) n e = λ none. cc
   length_is (Some (Lit (Int m))) n e = λ none. let is : m ≡ n = cc in zero_length n (subst (λ (z : ℤ). int_eq z (pos 0) ≡ true) is none)
 
-  since_start_fits : (id : PortId) (o : Option PortValue) (number : Option ℤ) (P : Memo → Type 0) → number_by (value_by site s o) ≡ number → ((n : ℕ) → IsLength o n → P (Begun (record { first = s.moment; length = n }))) → IfOk (since_start id s.moment (within range.Duration number)) P
+  since_start_fits : (id : NumericPort) (o : Option PortValue) (number : Option ℤ) (P : Memo → Type 0) → number_by (value_by site s o) ≡ number → ((n : ℕ) → IsLength o n → P (Begun (record { first = s.moment; length = n }))) → IfOk (since_start id s.moment (within range.Duration number)) P
   since_start_fits id o None P is goes = tt
   since_start_fits id o (Some n) P is goes =
       cond_both (fits range.Duration (Int n)) (Some n) None (λ (x : Option ℤ). IfOk (since_start id s.moment x) P) (λ _. goes (nat_abs n) (length_is o n is)) (λ _. tt)

@@ -3,7 +3,7 @@ use Rattle.std.proofs.Common.{◌≡◌, ℕ, zero, suc, ◌+◌, List, [], ◌�
 use Rattle.std.proofs.lemmas.Bool.{and_from}
 use Rattle.std.proofs.lemmas.List.{length-map}
 use Rattle.spec_script.specs.declared.syntax.Script.{Script}
-use Rattle.spec_run.specs.declared.fault.PortId.{PortId}
+use Rattle.spec_run.specs.declared.fault.NumericPort.{NumericPort}
 use Rattle.spec_run.specs.declared.leaf.Phase.{Phase}
 use Rattle.spec_run.specs.declared.leaf.Phase.TheVariants as phase
 use Rattle.spec_run.specs.declared.leaf.Reply.{Reply}
@@ -178,7 +178,7 @@ module _ (is_dead : ℕ → Bool) (rows : List Row) (F : Family is_dead rows) (n
       comes : (place : ℕ) → reaches node.kind node.ports about.children place ≡ true → may_visit about true place ≡ true
       comes place is = and_from (true && (before_rule node.guards).goes_on) (reaches node.kind node.ports about.children place) goes is
 
-      picked_left : (memo : Memo) (ms : List Memory) (s : State) (r : Result ℕ PortId) → has_rule node.kind ≡ true → Begins node.kind node.ports about.children memo → IfOk r (λ k. PickFits node.kind node.ports about.children memo k) → Below true ms →
+      picked_left : (memo : Memo) (ms : List Memory) (s : State) (r : Result ℕ NumericPort) → has_rule node.kind ≡ true → Begins node.kind node.ports about.children memo → IfOk r (λ k. PickFits node.kind node.ports about.children memo k) → Below true ms →
           Ruled node.kind s (follow (ends (or_bad_port uid r) ms s) (λ ms1. ms1) (λ place ms1 s1. rule node.kind (length here.node.children) memo place s1.moment (children_of here) ms1 s1))
       picked_left memo ms s (Err bad) has begins pick all = record { ends = lives; live = tt; spares = λ p e. refl }
       picked_left memo ms s (Ok place) has begins pick all =
@@ -209,7 +209,7 @@ module _ (is_dead : ℕ → Bool) (rows : List Row) (F : Family is_dead rows) (n
 
       -- ---- From a node that is not RUNNING
 
-      started_by : (m : Memory) (s : State) (r : Result Memo PortId) → IfOk r (λ memo. Begins node.kind node.ports about.children memo) → Below true (out-Memory m).children →
+      started_by : (m : Memory) (s : State) (r : Result Memo NumericPort) → IfOk r (λ memo. Begins node.kind node.ports about.children memo) → Below true (out-Memory m).children →
           Visited s (follow (ends (or_bad_port uid r) (out-Memory m).children s) (λ ms. remembered status.Running (out-Memory m).memo ms) (λ memo ms s1. ruled here status.Running memo ms s1))
       started_by m s (Err bad) begins all = record { ends = lives; live = tt; spares = λ p e. refl }
       started_by m s (Ok memo) begins all =

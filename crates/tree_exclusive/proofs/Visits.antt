@@ -16,7 +16,7 @@ use Rattle.run_laws.proofs.Whole.{NodeKeeps, Own, size_here}
 use Rattle.spec_exclusive.specs.declared.meeting.Meeting.{Meeting}
 use Rattle.spec_exclusive.specs.declared.meeting.Meeting.TheVariants.{Never, Together}
 use Rattle.spec_exclusive.specs.Meetings.{Meetings, meeting_below, meetings, meetings_of_node}
-use Rattle.spec_run.specs.declared.fault.PortId.{PortId}
+use Rattle.spec_run.specs.declared.fault.NumericPort.{NumericPort}
 use Rattle.spec_run.specs.declared.leaf.Instance.{Instance}
 use Rattle.spec_run.specs.declared.leaf.Phase.{Phase}
 use Rattle.spec_run.specs.declared.leaf.Phase.TheVariants as phase
@@ -175,7 +175,7 @@ module _ (runner : ℕ) {X : Type 0} (term : X → Term) (parts : (c : X) → Pa
     free_below : Free Below s
     free_below p q pair = free p q (from_below p q pair)
 
-    ruled_by : (r : Result ℕ PortId) → Begins node.kind node.ports s.moment memo (statuses ms) →
+    ruled_by : (r : Result ℕ NumericPort) → Begins node.kind node.ports s.moment memo (statuses ms) →
         PartsHere s (follow (ends (or_bad_port uid r) ms s) (λ ms1. ms1) (λ place ms1 s1. rule node.kind (length here.node.children) memo place s1.moment (children_of here) ms1 s1))
     ruled_by (Ok place) begins =
         more_parted runner Below Here uid size (uid + 1) (sizes_of term same node.children) s _ _ (omega arith) (omega arith) to_below
@@ -225,13 +225,13 @@ module _ (runner : ℕ) {X : Type 0} (term : X → Term) (parts : (c : X) → Pa
       follow_each runner Here uid size d (λ ms1. remembered st memo ms1) (λ g ms1 s1. ended here st g ms1 s1) s first
       (λ g. ended_parts st g d.memory d.state (parted_free runner first))
 
-  started_by : (m : Memory) (s : State) (r : Result Memo PortId) → has_rule node.kind ≡ true → (memo : Memo) → r ≡ Ok memo → Begins node.kind node.ports s.moment memo (statuses (out-Memory m).children) →
+  started_by : (m : Memory) (s : State) (r : Result Memo NumericPort) → has_rule node.kind ≡ true → (memo : Memo) → r ≡ Ok memo → Begins node.kind node.ports s.moment memo (statuses (out-Memory m).children) →
       Keeps status.Idle (out-Memory m).memo (out-Memory m).children s → All None (out-Memory m).children s → HasRoom s → Free Here s →
       PartsHere s (ruled here status.Running memo (out-Memory m).children s)
   started_by m s r has memo is begins own all room free =
       ruled_parts status.Running memo (out-Memory m).children s (ready_new F node view uid memo m s has begins own) all room free
 
-  started_with : (m : Memory) (s : State) (r : Result Memo PortId) → has_rule node.kind ≡ true → IfOk r (λ memo. Begins node.kind node.ports s.moment memo (statuses (out-Memory m).children)) →
+  started_with : (m : Memory) (s : State) (r : Result Memo NumericPort) → has_rule node.kind ≡ true → IfOk r (λ memo. Begins node.kind node.ports s.moment memo (statuses (out-Memory m).children)) →
       Keeps status.Idle (out-Memory m).memo (out-Memory m).children s → All None (out-Memory m).children s → HasRoom s → Free Here s →
       PartsHere s (follow (ends (or_bad_port uid r) (out-Memory m).children s) (λ ms. remembered status.Running (out-Memory m).memo ms) (λ memo ms s1. ruled here status.Running memo ms s1))
   started_with m s (Ok memo) has begins own all room free = started_by m s (Ok memo) has memo refl begins own all room free

@@ -96,7 +96,8 @@ fn read(
     depth: usize,
     levels: usize,
 ) -> Result<Value, Stop<Invalid>>
-    ensures ok { IfOk result (λ v. (d : Data) × (converted of_json (value depth reader.old) ≡ Some (d, reader.new)) × Shows levels (view v) d) }
+    ensures ok { IfOk result (λ v. (d : Data) ×
+        (converted of_json (value depth reader.old) ≡ Some (d, reader.new)) × Shows levels (view v) d) }
     ensures shorter { OnOk result (length reader.new < length reader.old) }
     ensures fault { IsFault result → converted of_json (value depth reader.old) ≡ None }
 {
@@ -135,7 +136,8 @@ fn read(
 #[cycle(read)]
 #[inline(never)]
 fn pass_items(alloc: Global, reader: &mut Reader<'_>, depth: usize) -> Result<(), Stop<Invalid>>
-    ensures ok { OnOk result ((ds : Items) × (converted of_items (items (value depth) (length reader.old) reader.old) ≡ Some (ds, reader.new))) }
+    ensures ok { OnOk result ((ds : Items) ×
+        (converted of_items (items (value depth) (length reader.old) reader.old) ≡ Some (ds, reader.new))) }
     ensures shorter { OnOk result (length reader.new < length reader.old) }
     ensures fault { IsFault result → converted of_items (items (value depth) (length reader.old) reader.old) ≡ None }
 {

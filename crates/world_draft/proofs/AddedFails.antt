@@ -7,17 +7,17 @@ use Rattle.spec_world.specs.declared.world.Fact.{Fact}
 use Rattle.spec_world.specs.declared.world.Row.{Row}
 use Rattle.spec_world.specs.declared.world.RowSort.{RowSort}
 use Rattle.spec_world.specs.declared.world.RowSort.TheVariants.{Timed, TimedBy}
-use Rattle.spec_world_file.specs.declared.world_fault.WorldKind.{WorldKind}
+use Rattle.spec_world_file.specs.declared.world_fault.WorldFaultKind.{WorldFaultKind}
 use Rattle.spec_world_file.specs.WorldFile.{fails_by, knows_all, row_with_fails}
 use Rattle.world_draft.specs.Drafts.{fails_said}
 use Rattle.world_draft.specs.Readings.{Leaves}
 
 -- the row with what is said
-abbrev row_said : (Option Expr → RowSort) → Row → Result (Option Expr) WorldKind → Result Row WorldKind
+abbrev row_said : (Option Expr → RowSort) → Row → Result (Option Expr) WorldFaultKind → Result Row WorldFaultKind
 row_said sort row (Ok fails) = Ok (record row { sort = sort fails })
 row_said sort row (Err kind) = Err kind
 
-leaves_row : {A : Type 0} (result : Result A (Stop WorldKind)) (left : Option Expr) (sort : Option Expr → RowSort) (row : Row) (said : Result (Option Expr) WorldKind) (whole : Result Row WorldKind) →
+leaves_row : {A : Type 0} (result : Result A (Stop WorldFaultKind)) (left : Option Expr) (sort : Option Expr → RowSort) (row : Row) (said : Result (Option Expr) WorldFaultKind) (whole : Result Row WorldFaultKind) →
     row_said sort row said ≡ whole → Leaves result left (λ s. s ≡ said) → Leaves result (record row { sort = sort left }) (λ s. s ≡ whole)
 leaves_row (Ok a) left sort row said whole is h = ap (row_said sort row) h ∙ is
 leaves_row (Err stop.NoMemory) left sort row said whole is h = tt
@@ -38,14 +38,14 @@ measured_said length None row false e = refl
 measured_said length (Some other) row known e = refl
 
 -- of an action whose length is a number
-pub timed_fails : {A : Type 0} (result : Result A (Stop WorldKind)) (ms : ℕ) (old new : Option Expr) (row : Row) (facts : List Fact) (known : Bool) (e : Expr) →
+pub timed_fails : {A : Type 0} (result : Result A (Stop WorldFaultKind)) (ms : ℕ) (old new : Option Expr) (row : Row) (facts : List Fact) (known : Bool) (e : Expr) →
     row.sort ≡ Timed ms old → known ≡ knows_all row.ports facts e → Leaves result new (λ s. s ≡ fails_said old known e) →
     Leaves result (record row { sort = Timed ms new }) (λ s. s ≡ row_with_fails facts e row)
 timed_fails result ms old new row facts known e is knows =
     leaves_row result new (Timed ms) row (fails_said old known e) (row_with_fails facts e row) (timed_said ms old row known e ∙ by_row facts row (Timed ms old) known e is knows)
 
 -- .. and of one whose length is an expression
-pub measured_fails : {A : Type 0} (result : Result A (Stop WorldKind)) (length : Expr) (old new : Option Expr) (row : Row) (facts : List Fact) (known : Bool) (e : Expr) →
+pub measured_fails : {A : Type 0} (result : Result A (Stop WorldFaultKind)) (length : Expr) (old new : Option Expr) (row : Row) (facts : List Fact) (known : Bool) (e : Expr) →
     row.sort ≡ TimedBy length old → known ≡ knows_all row.ports facts e → Leaves result new (λ s. s ≡ fails_said old known e) →
     Leaves result (record row { sort = TimedBy length new }) (λ s. s ≡ row_with_fails facts e row)
 measured_fails result length old new row facts known e is knows =

@@ -6,8 +6,8 @@ use Rattle.base_texts.specs.declared.stop.Stop.TheVariants as stop
 use Rattle.std.specs.Global.{Global}
 use Rattle.spec_world.specs.declared.world.What.{What}
 use Rattle.spec_world.specs.declared.world.What.TheVariants as what
-use Rattle.spec_world_file.specs.declared.world_fault.WorldKind.{WorldKind}
-use Rattle.spec_world_file.specs.declared.world_fault.WorldKind.TheVariants.{Range}
+use Rattle.spec_world_file.specs.declared.world_fault.WorldFaultKind.{WorldFaultKind}
+use Rattle.spec_world_file.specs.declared.world_fault.WorldFaultKind.TheVariants.{Range}
 use Rattle.spec_world_file.specs.WorldFile as file
 use Rattle.world_draft.specs.declared.rounds.Part.{Part}
 use Rattle.world_draft.specs.declared.rounds.Part.TheVariants.{Tick, Halt}
@@ -27,7 +27,7 @@ PartSays (Some part) written runners = (is_within runners written ≡ true) × (
 PartSays None written runners = is_within runners written ≡ false
 
 -- the parts that are written, where all runners are there, or the fault that one is not
-abbrev pub PartsSay : Result (Vec Part Global) (Stop WorldKind) → List file.Part → ℕ → Type 0
+abbrev pub PartsSay : Result (Vec Part Global) (Stop WorldFaultKind) → List file.Part → ℕ → Type 0
 PartsSay (Ok parts) written runners = (list_all (is_within runners) written ≡ true) × (map what_of parts.items ≡ map file.what_in written)
 PartsSay (Err stop.NoMemory) written runners = Unit {0}
 PartsSay (Err (stop.Fault Range)) written runners = list_all (is_within runners) written ≡ false

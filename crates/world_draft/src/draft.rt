@@ -12,7 +12,7 @@ use base_tables::{MOST_EFFECTS, MOST_NEEDS, MOST_OUTPUTS};
 use base_texts::{Items, Name, NoMemory, Stop};
 use spec_script::Expr;
 use spec_world::{Out, Row, RowSort, Set};
-use spec_world_file::WorldKind;
+use spec_world_file::WorldFaultKind;
 use std::alloc::Global;
 use std::mem::replace;
 
@@ -78,7 +78,7 @@ impl Draft {
 
     /// Adds when the action fails. The fault `BadLine` where it is not timed, `DoubleName` where it has such a line,
     /// `NoName` where a name is neither a port nor a fact.
-    pub fn add_fails(&mut self, facts: &Facts, expr: Expr) -> Result<(), Stop<WorldKind>>
+    pub fn add_fails(&mut self, facts: &Facts, expr: Expr) -> Result<(), Stop<WorldFaultKind>>
         ensures added { Leaves result (row_of self.new) (λ said. said ≡ row_with_fails facts.now expr (row_of self.old)) }
         ensures id { self.new.id ≡ self.old.id }
     {
@@ -88,14 +88,14 @@ impl Draft {
             RowSort::TimedBy { fails, .. } => set_fails(fails, known, expr),
             _ => {
                 drop(expr);
-                Err(Stop::Fault(WorldKind::BadLine))
+                Err(Stop::Fault(WorldFaultKind::BadLine))
             }
         }
     }
 
     /// Adds an output for which a value may be told. The fault `BadLine` where the row is not told, `DoubleName` where it
     /// has the output, `TooMany` above 8.
-    pub fn add_name(&mut self, alloc: Global, port: Name) -> Result<(), Stop<WorldKind>>
+    pub fn add_name(&mut self, alloc: Global, port: Name) -> Result<(), Stop<WorldFaultKind>>
         ensures added { Leaves result (row_of self.new) (λ said. said ≡ row_with_name port (row_of self.old)) }
         ensures id { self.new.id ≡ self.old.id }
     {
@@ -103,18 +103,18 @@ impl Draft {
             RowSort::Told { outs } => {
                 if has_name(outs.list(), port.list()) {
                     drop(port);
-                    return Err(Stop::Fault(WorldKind::DoubleName));
+                    return Err(Stop::Fault(WorldFaultKind::DoubleName));
                 }
                 if outs.list().len() >= MOST_OUTPUTS {
                     drop(port);
-                    return Err(Stop::Fault(WorldKind::TooMany));
+                    return Err(Stop::Fault(WorldFaultKind::TooMany));
                 }
                 push_name(alloc, outs, port)?;
                 Ok(())
             }
             _ => {
                 drop(port);
-                Err(Stop::Fault(WorldKind::BadLine))
+                Err(Stop::Fault(WorldFaultKind::BadLine))
             }
         }
     }
@@ -127,15 +127,15 @@ impl Draft {
     }
 
     /// Adds the need of the condition of this number. The fault `DoubleName` where the row has it, `TooMany` above 16.
-    pub fn add_need(&mut self, number: u32) -> Result<(), Stop<WorldKind>>
+    pub fn add_need(&mut self, number: u32) -> Result<(), Stop<WorldFaultKind>>
         ensures added { Leaves result (row_of self.new) (λ said. said ≡ row_with_need number (row_of self.old)) }
         ensures id { self.new.id ≡ self.old.id }
     {
         if self.has_need(number) {
-            return Err(Stop::Fault(WorldKind::DoubleName));
+            return Err(Stop::Fault(WorldFaultKind::DoubleName));
         }
         if self.needs.len() >= MOST_NEEDS {
-            return Err(Stop::Fault(WorldKind::TooMany));
+            return Err(Stop::Fault(WorldFaultKind::TooMany));
         }
         self.needs.push(number)?;
         Ok(())
@@ -149,15 +149,15 @@ impl Draft {
     }
 
     /// Adds an effect. The fault `DoubleName` where one is on its fact, `TooMany` above 16.
-    pub fn add_set(&mut self, set: Set) -> Result<(), Stop<WorldKind>>
+    pub fn add_set(&mut self, set: Set) -> Result<(), Stop<WorldFaultKind>>
         ensures added { Leaves result (row_of self.new) (λ said. said ≡ row_with_effect set (row_of self.old)) }
         ensures id { self.new.id ≡ self.old.id }
     {
         if self.has_set(set.fact) {
-            return Err(Stop::Fault(WorldKind::DoubleName));
+            return Err(Stop::Fault(WorldFaultKind::DoubleName));
         }
         if self.sets.len() >= MOST_EFFECTS {
-            return Err(Stop::Fault(WorldKind::TooMany));
+            return Err(Stop::Fault(WorldFaultKind::TooMany));
         }
         self.sets.push(set)?;
         Ok(())
@@ -172,21 +172,21 @@ impl Draft {
 
     /// Adds an output. The fault `DoubleName` where one writes its port, `NoName` where a name is neither a port nor a
     /// fact, `TooMany` above 8.
-    pub fn add_out(&mut self, facts: &Facts, out: Out) -> Result<(), Stop<WorldKind>>
+    pub fn add_out(&mut self, facts: &Facts, out: Out) -> Result<(), Stop<WorldFaultKind>>
         ensures added { Leaves result (row_of self.new) (λ said. said ≡ row_with_out facts.now out.port out.expr (row_of self.old)) }
         ensures id { self.new.id ≡ self.old.id }
     {
         if self.writes(out.port.list()) {
             drop(out);
-            return Err(Stop::Fault(WorldKind::DoubleName));
+            return Err(Stop::Fault(WorldFaultKind::DoubleName));
         }
         if !knows_all(facts, &self.ports, &out.expr) {
             drop(out);
-            return Err(Stop::Fault(WorldKind::NoName));
+            return Err(Stop::Fault(WorldFaultKind::NoName));
         }
         if self.outs.len() >= MOST_OUTPUTS {
             drop(out);
-            return Err(Stop::Fault(WorldKind::TooMany));
+            return Err(Stop::Fault(WorldFaultKind::TooMany));
         }
         self.outs.push(out)?;
         Ok(())
@@ -195,16 +195,16 @@ impl Draft {
 
 /// Sets when an action fails, where no line says it yet. The fault `DoubleName` where one does, `NoName` where not all
 /// names of the expression are known.
-fn set_fails(fails: &mut Option<Expr>, known: bool, expr: Expr) -> Result<(), Stop<WorldKind>>
+fn set_fails(fails: &mut Option<Expr>, known: bool, expr: Expr) -> Result<(), Stop<WorldFaultKind>>
     ensures { Leaves result fails.new (λ said. said ≡ fails_said fails.old known expr) }
 {
     if fails.is_some() {
         drop(expr);
-        return Err(Stop::Fault(WorldKind::DoubleName));
+        return Err(Stop::Fault(WorldFaultKind::DoubleName));
     }
     if !known {
         drop(expr);
-        return Err(Stop::Fault(WorldKind::NoName));
+        return Err(Stop::Fault(WorldFaultKind::NoName));
     }
     drop(replace(fails, Some(expr)));
     Ok(())

@@ -20,7 +20,7 @@ use base_tables::{
 use base_texts::{Items, Name, NoMemory, Stop};
 use spec_script::Expr;
 use spec_world::{Event, Fact, Out, Row, RowSort, Set, What, World};
-use spec_world_file::WorldKind;
+use spec_world_file::WorldFaultKind;
 use std::alloc::Global;
 use std::marker::Model;
 
@@ -200,16 +200,16 @@ impl Reading {
         id: Name,
         ports: Ports,
         sort: &RowSort,
-    ) -> Result<(Name, Ports), Stop<WorldKind>>
+    ) -> Result<(Name, Ports), Stop<WorldFaultKind>>
         ensures { Allowed result id ports sort.now self.now }
     {
         if !self.knows_sort(&ports, sort) {
             drop(ports);
-            return Err(Stop::Fault(WorldKind::NoName));
+            return Err(Stop::Fault(WorldFaultKind::NoName));
         }
         if ports.len() > MOST_PORTS {
             drop(ports);
-            return Err(Stop::Fault(WorldKind::TooMany));
+            return Err(Stop::Fault(WorldFaultKind::TooMany));
         }
         Ok((id, ports))
     }
@@ -222,15 +222,15 @@ impl Reading {
         id: Name,
         names: Vec<Name>,
         sort: &RowSort,
-    ) -> Result<(Name, Ports), Stop<WorldKind>>
+    ) -> Result<(Name, Ports), Stop<WorldFaultKind>>
         ensures { HeadChecked result id names.items sort.now self.now }
     {
         if self.has_taken(id.list()) {
-            return Err(Stop::Fault(WorldKind::DoubleName));
+            return Err(Stop::Fault(WorldFaultKind::DoubleName));
         }
         match Ports::of(alloc, names)? {
             Some(ports) => self.allowed(id, ports, sort),
-            None => Err(Stop::Fault(WorldKind::DoubleName)),
+            None => Err(Stop::Fault(WorldFaultKind::DoubleName)),
         }
     }
 
@@ -241,7 +241,7 @@ impl Reading {
         id: Name,
         names: Vec<Name>,
         sort: RowSort,
-    ) -> Result<Draft, Stop<WorldKind>>
+    ) -> Result<Draft, Stop<WorldFaultKind>>
         ensures { DraftSays result (record { id = id; ports = names.items }) sort self.now }
     {
         match self.checked_head(alloc, id, names, &sort) {
@@ -254,42 +254,42 @@ impl Reading {
     }
 
     /// Adds a fact. The fault `DoubleName` where one has its name, `TooMany` above 1,024.
-    pub fn add_fact(&mut self, alloc: Global, fact: Fact) -> Result<(), Stop<WorldKind>>
+    pub fn add_fact(&mut self, alloc: Global, fact: Fact) -> Result<(), Stop<WorldFaultKind>>
         ensures { Leaves result self.new (λ said. said ≡ with_fact fact.name fact.opening self.old) }
     {
         if self.facts.has(fact.name.list()) {
-            return Err(Stop::Fault(WorldKind::DoubleName));
+            return Err(Stop::Fault(WorldFaultKind::DoubleName));
         }
         if self.facts.len() >= MOST_FACTS {
-            return Err(Stop::Fault(WorldKind::TooMany));
+            return Err(Stop::Fault(WorldFaultKind::TooMany));
         }
         self.facts.add(alloc, fact)?;
         Ok(())
     }
 
     /// Adds a condition, of which nothing more is said. The fault `TooMany` above 1,024 rows.
-    pub fn add_condition(&mut self, alloc: Global, row: Row) -> Result<(), Stop<WorldKind>>
+    pub fn add_condition(&mut self, alloc: Global, row: Row) -> Result<(), Stop<WorldFaultKind>>
         requires open { self.old.open_row ≡ None }
         requires free { list_any (bytes_eq row.id) (ids_of_rows self.old.rows) ≡ false }
         ensures { Leaves result self.new (λ said. said ≡ with_row row self.old) }
     {
         if self.rows.len() >= MOST_ROWS {
             drop(row);
-            return Err(Stop::Fault(WorldKind::TooMany));
+            return Err(Stop::Fault(WorldFaultKind::TooMany));
         }
         self.rows.add(alloc, row)?;
         Ok(())
     }
 
     /// Opens an action. The fault `TooMany` above 1,024 rows.
-    pub fn open_action(&mut self, draft: Draft) -> Result<(), Stop<WorldKind>>
+    pub fn open_action(&mut self, draft: Draft) -> Result<(), Stop<WorldFaultKind>>
         requires open { self.old.open_row ≡ None }
         requires free { list_any (bytes_eq draft.id) (ids_of_rows self.old.rows) ≡ false }
         ensures { Leaves result self.new (λ said. said ≡ with_action (row_of draft) self.old) }
     {
         if self.rows.len() >= MOST_ROWS {
             drop(draft);
-            return Err(Stop::Fault(WorldKind::TooMany));
+            return Err(Stop::Fault(WorldFaultKind::TooMany));
         }
         drop(self.draft.replace(draft));
         Ok(())
@@ -313,68 +313,68 @@ impl Reading {
     }
 
     /// Adds to the open action when it fails. The fault `BadLine` where none is open, and as for `Draft::add_fails`.
-    pub fn add_fails(&mut self, expr: Expr) -> Result<(), Stop<WorldKind>>
+    pub fn add_fails(&mut self, expr: Expr) -> Result<(), Stop<WorldFaultKind>>
         ensures { Leaves result self.new (λ said. said ≡ with_open self.old.open_row self.old (row_with_fails self.old.facts expr)) }
     {
         match &mut self.draft {
             Some(draft) => draft.add_fails(&self.facts, expr),
             None => {
                 drop(expr);
-                Err(Stop::Fault(WorldKind::BadLine))
+                Err(Stop::Fault(WorldFaultKind::BadLine))
             }
         }
     }
 
     /// Adds to the open action the need of the condition of this number. The fault `BadLine` where none is open, and as
     /// for `Draft::add_need`.
-    pub fn add_need(&mut self, number: u32) -> Result<(), Stop<WorldKind>>
+    pub fn add_need(&mut self, number: u32) -> Result<(), Stop<WorldFaultKind>>
         ensures { Leaves result self.new (λ said. said ≡ with_open self.old.open_row self.old (row_with_need number)) }
     {
         match &mut self.draft {
             Some(draft) => draft.add_need(number),
-            None => Err(Stop::Fault(WorldKind::BadLine)),
+            None => Err(Stop::Fault(WorldFaultKind::BadLine)),
         }
     }
 
     /// Adds an effect to the open action. The fault `BadLine` where none is open, and as for `Draft::add_set`.
-    pub fn add_set(&mut self, set: Set) -> Result<(), Stop<WorldKind>>
+    pub fn add_set(&mut self, set: Set) -> Result<(), Stop<WorldFaultKind>>
         ensures { Leaves result self.new (λ said. said ≡ with_open self.old.open_row self.old (row_with_effect set)) }
     {
         match &mut self.draft {
             Some(draft) => draft.add_set(set),
-            None => Err(Stop::Fault(WorldKind::BadLine)),
+            None => Err(Stop::Fault(WorldFaultKind::BadLine)),
         }
     }
 
     /// Adds to the open action an output for which a value may be told. The fault `BadLine` where none is open, and as for
     /// `Draft::add_name`.
-    pub fn add_name(&mut self, alloc: Global, port: Name) -> Result<(), Stop<WorldKind>>
+    pub fn add_name(&mut self, alloc: Global, port: Name) -> Result<(), Stop<WorldFaultKind>>
         ensures { Leaves result self.new (λ said. said ≡ with_open self.old.open_row self.old (row_with_name port)) }
     {
         match &mut self.draft {
             Some(draft) => draft.add_name(alloc, port),
             None => {
                 drop(port);
-                Err(Stop::Fault(WorldKind::BadLine))
+                Err(Stop::Fault(WorldFaultKind::BadLine))
             }
         }
     }
 
     /// Adds an output to the open action. The fault `BadLine` where none is open that is modelled, and as for
     /// `Draft::add_out`.
-    pub fn add_out(&mut self, out: Out) -> Result<(), Stop<WorldKind>>
+    pub fn add_out(&mut self, out: Out) -> Result<(), Stop<WorldFaultKind>>
         ensures { Leaves result self.new (λ said.
             said ≡ with_open (where_modelled self.old.open_row) self.old (row_with_out self.old.facts out.port out.expr)) }
     {
         if !self.is_modelled() {
             drop(out);
-            return Err(Stop::Fault(WorldKind::BadLine));
+            return Err(Stop::Fault(WorldFaultKind::BadLine));
         }
         match &mut self.draft {
             Some(draft) => draft.add_out(&self.facts, out),
             None => {
                 drop(out);
-                Err(Stop::Fault(WorldKind::BadLine))
+                Err(Stop::Fault(WorldFaultKind::BadLine))
             }
         }
     }
@@ -387,48 +387,48 @@ impl Reading {
     }
 
     /// Adds the condition of this number as a goal. The fault `DoubleName` where it is one, `TooMany` above 64.
-    pub fn add_goal(&mut self, number: u32) -> Result<(), Stop<WorldKind>>
+    pub fn add_goal(&mut self, number: u32) -> Result<(), Stop<WorldFaultKind>>
         ensures { Leaves result self.new (λ said. said ≡ with_goal number self.old) }
     {
         if self.has_goal(number) {
-            return Err(Stop::Fault(WorldKind::DoubleName));
+            return Err(Stop::Fault(WorldFaultKind::DoubleName));
         }
         if self.goals.len() >= MOST_GOALS {
-            return Err(Stop::Fault(WorldKind::TooMany));
+            return Err(Stop::Fault(WorldFaultKind::TooMany));
         }
         self.goals.push(number)?;
         Ok(())
     }
 
     /// Says how many runners there are. The fault `DoubleName` where an earlier line says it.
-    pub fn set_runners(&mut self, count: u8) -> Result<(), Stop<WorldKind>>
+    pub fn set_runners(&mut self, count: u8) -> Result<(), Stop<WorldFaultKind>>
         ensures { Leaves result self.new (λ said. said ≡ with_runners count self.old) }
     {
         if self.runners.is_some() {
-            return Err(Stop::Fault(WorldKind::DoubleName));
+            return Err(Stop::Fault(WorldFaultKind::DoubleName));
         }
         self.runners = Some(count);
         Ok(())
     }
 
     /// Goes to a moment, in milliseconds. The fault `MomentBack` where it lies before the last one.
-    pub fn move_to(&mut self, ms: u64) -> Result<(), Stop<WorldKind>>
+    pub fn move_to(&mut self, ms: u64) -> Result<(), Stop<WorldFaultKind>>
         ensures { Leaves result self.new (λ said. said ≡ with_moment ms self.old) }
     {
         if ms < self.moment {
-            return Err(Stop::Fault(WorldKind::MomentBack));
+            return Err(Stop::Fault(WorldFaultKind::MomentBack));
         }
         self.moment = ms;
         Ok(())
     }
 
     /// Adds an event at the last moment. The fault `TooMany` above 100,000.
-    pub fn add_event(&mut self, what: What) -> Result<(), Stop<WorldKind>>
+    pub fn add_event(&mut self, what: What) -> Result<(), Stop<WorldFaultKind>>
         ensures { Leaves result self.new (λ said. said ≡ with_event what self.old) }
     {
         if self.events.len() >= MOST_EVENTS {
             drop(what);
-            return Err(Stop::Fault(WorldKind::TooMany));
+            return Err(Stop::Fault(WorldFaultKind::TooMany));
         }
         self.events.push(Event {
             at: self.moment,
@@ -440,19 +440,24 @@ impl Reading {
     /// Adds rounds of events from the last moment on, up to and with this one, each `ms` milliseconds after the one before.
     /// The last moment is then that of the last round. The fault `MomentBack` where this moment lies before the last one,
     /// `TooMany` above 100,000 events.
-    pub fn add_rounds(&mut self, last: u64, ms: u64, parts: &[Part]) -> Result<(), Stop<WorldKind>>
+    pub fn add_rounds(
+        &mut self,
+        last: u64,
+        ms: u64,
+        parts: &[Part],
+    ) -> Result<(), Stop<WorldFaultKind>>
         requires some { 1 ≤ ms }
         requires near { ms ≤ 1000000000000 }
         requires early { last ≤ 1000000000000 }
         ensures { Leaves result self.new (λ said. said ≡ with_rounds last ms (map what_of parts.now) self.old) }
     {
         if last < self.moment {
-            return Err(Stop::Fault(WorldKind::MomentBack));
+            return Err(Stop::Fault(WorldFaultKind::MomentBack));
         }
         let steps = (last - self.moment) / ms;
         let more = (steps + 1).saturating_mul(parts.len() as u64);
         if more.saturating_add(self.events.len() as u64) > MOST_EVENTS as u64 {
-            return Err(Stop::Fault(WorldKind::TooMany));
+            return Err(Stop::Fault(WorldFaultKind::TooMany));
         }
         push_rounds(&mut self.events, self.moment, ms, steps + 1, parts)?;
         self.moment += steps * ms;

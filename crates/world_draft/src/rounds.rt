@@ -5,7 +5,7 @@ ghost use Rattle.world_draft.specs.Rounds.{PartSays, PartsSay, what_of};
 
 use base_texts::{NoMemory, Stop};
 use spec_world::{Event, What};
-use spec_world_file::WorldKind;
+use spec_world_file::WorldFaultKind;
 use std::alloc::Global;
 use world_lines::WrittenPart;
 
@@ -43,14 +43,14 @@ pub fn parts_within(
     alloc: Global,
     written: &[WrittenPart],
     runners: u8,
-) -> Result<Vec<Part>, Stop<WorldKind>>
+) -> Result<Vec<Part>, Stop<WorldFaultKind>>
     ensures { PartsSay result (map seen_part written.now) runners }
 {
     let mut parts = Vec::new(alloc);
     for part in written {
         match part_within(part, runners) {
             Some(part) => parts.push(part)?,
-            None => return Err(Stop::Fault(WorldKind::Range)),
+            None => return Err(Stop::Fault(WorldFaultKind::Range)),
         }
     }
     Ok(parts)

@@ -10,7 +10,7 @@ use base_texts::{Items, NoMemory, Stop, Txt};
 use indexmap::IndexSet;
 use spec_script::Value;
 use spec_world::ToldOut;
-use spec_world_file::WorldKind;
+use spec_world_file::WorldFaultKind;
 use std::alloc::Global;
 use world_lines::{Written, WrittenOut};
 
@@ -98,17 +98,17 @@ fn told(alloc: Global, outs: &[WrittenOut]) -> Result<Vec<ToldOut>, NoMemory>
 
 /// The outputs of a telling. The fault `Range` where a number would not fit 64 bits, `DoubleName` where an output stands
 /// twice, `TooMany` above 8 outputs and where a text has more than 4,096 bytes.
-pub fn told_outs(alloc: Global, outs: &[WrittenOut]) -> Result<Items<ToldOut>, Stop<WorldKind>>
+pub fn told_outs(alloc: Global, outs: &[WrittenOut]) -> Result<Items<ToldOut>, Stop<WorldFaultKind>>
     ensures { OutsSay result (map seen_out outs.now) }
 {
     if !are_small(outs) {
-        return Err(Stop::Fault(WorldKind::Range));
+        return Err(Stop::Fault(WorldFaultKind::Range));
     }
     if has_double(alloc, outs)? {
-        return Err(Stop::Fault(WorldKind::DoubleName));
+        return Err(Stop::Fault(WorldFaultKind::DoubleName));
     }
     if are_many(outs) {
-        return Err(Stop::Fault(WorldKind::TooMany));
+        return Err(Stop::Fault(WorldFaultKind::TooMany));
     }
     Ok(Items::of(told(alloc, outs)?))
 }

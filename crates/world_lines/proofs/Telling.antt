@@ -10,8 +10,8 @@ use Rattle.spec_script.specs.declared.value.Value.{Value}
 use Rattle.spec_script.specs.declared.value.Value.TheVariants.{Text}
 use Rattle.spec_world.specs.declared.world.ToldOut.{ToldOut}
 use Rattle.spec_world.specs.Worlds.{ports_told}
-use Rattle.spec_world_file.specs.declared.world_fault.WorldKind.{WorldKind}
-use Rattle.spec_world_file.specs.declared.world_fault.WorldKind.TheVariants.{DoubleName, Range, TooMany}
+use Rattle.spec_world_file.specs.declared.world_fault.WorldFaultKind.{WorldFaultKind}
+use Rattle.spec_world_file.specs.declared.world_fault.WorldFaultKind.TheVariants.{DoubleName, Range, TooMany}
 use Rattle.spec_world_file.specs.WorldFile.{BeginsWith, Reading, ReadsOuts, ReadsTold, is_long, is_small, ranged, repeats, text_value, with_telling, without_gap}
 use Rattle.world_lines.specs.Written.{FindsOut}
 

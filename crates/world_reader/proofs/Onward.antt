@@ -8,13 +8,13 @@ use Rattle.std.proofs.lemmas.List.Sums.{count_by-le-length}
 use Rattle.base_texts.specs.declared.stop.Stop.{Stop}
 use Rattle.spec_world.specs.declared.world.World.{World}
 use Rattle.spec_world_file.specs.declared.world_fault.WorldFault.{WorldFault}
-use Rattle.spec_world_file.specs.declared.world_fault.WorldKind.{WorldKind}
+use Rattle.spec_world_file.specs.declared.world_fault.WorldFaultKind.{WorldFaultKind}
 use Rattle.spec_world.specs.Worlds.{IsValidWorld}
 use Rattle.spec_world_file.specs.WorldFile.{Reading, AfterLines, AfterText, GoesOn, ReadsWorld, lines_in, without_empty_rest}
 use Rattle.world_reader.specs.Readings.{Gives}
 
 module _ {X : Type 0} (f : X → List ℕ) (d : X) (xs : List X) (i : ℕ) (r : Reading) (within : i < length xs) where
-  next_line : (n : ℕ) (said : Result Reading WorldFault) (next : Result Reading WorldKind) → AfterText r (f (get_or xs i d)) next → GoesOn n (λ left. AfterLines (n + 1) (map f (drop (i + 1) xs)) left said) said next → AfterLines n (map f (drop i xs)) r said
+  next_line : (n : ℕ) (said : Result Reading WorldFault) (next : Result Reading WorldFaultKind) → AfterText r (f (get_or xs i d)) next → GoesOn n (λ left. AfterLines (n + 1) (map f (drop (i + 1) xs)) left said) said next → AfterLines n (map f (drop i xs)) r said
   next_line n said next text on = subst (λ (ts : List X). AfterLines n (map f ts) r said) (sym (drop_more xs i d within)) (next, text, on)
 
   -- what is said of the rest is said of it after this line

@@ -10,8 +10,8 @@ use Rattle.spec_world.specs.declared.world.Row.{Row}
 use Rattle.spec_world.specs.declared.world.RowSort.{RowSort}
 use Rattle.spec_world.specs.declared.world.RowSort.TheVariants.{TimedBy}
 use Rattle.spec_world.specs.declared.world.What.{What}
-use Rattle.spec_world_file.specs.declared.world_fault.WorldKind.{WorldKind}
-use Rattle.spec_world_file.specs.declared.world_fault.WorldKind.TheVariants.{Header, BadLine, Range, DoubleName, NoName, MomentBack, TooMany}
+use Rattle.spec_world_file.specs.declared.world_fault.WorldFaultKind.{WorldFaultKind}
+use Rattle.spec_world_file.specs.declared.world_fault.WorldFaultKind.TheVariants.{Header, BadLine, Range, DoubleName, NoName, MomentBack, TooMany}
 use Rattle.spec_world_file.specs.WorldFile.{Line, EveryLine, Part, TimedLine, TimedByLine, ReplayLine, AfterForm, AfterLine, Reading, following, ends_after, is_ms, is_runner, is_step, runner_in, runners_of, what_in, with_rounds, is_group, number_line, outcomes_in, placed, replay_line, timed_line, told_line, with_action, word, ReadsNumeric, SaysOf, closed, ranged, with_head}
 use Rattle.spec_tree.specs.Numbers.{is_canonical, number_in}
 use Rattle.spec_world_file.specs.WorldFile as file
@@ -27,44 +27,44 @@ leaves_map (Err stop.NoMemory) left P Q h k = k
 leaves_map (Err (stop.Fault f)) left P Q h k = h (Err f) k
 
 -- what is said of an expression that was read
-pub says_some : (text : List ℕ) (e : Expr) (rule : Expr → Result Reading WorldKind) (said : Result Reading WorldKind) → ReadsNumeric text (Some e) → said ≡ rule e → SaysOf text rule said
+pub says_some : (text : List ℕ) (e : Expr) (rule : Expr → Result Reading WorldFaultKind) (said : Result Reading WorldFaultKind) → ReadsNumeric text (Some e) → said ≡ rule e → SaysOf text rule said
 says_some text e rule said reads is = record { expr = Some e; reads = reads; is = is }
 
 -- what is said of a head that was read
-pub of_head : {A : Type 0} (r left : Reading) (line : file.Head → Option Line) (head : file.Head) (word : List ℕ) (result : Result A (Stop WorldKind)) → Some head ≡ file.head_in word → Leaves result left (AfterForm r (line head)) → Leaves result left (AfterForm r (option_and_then line (file.head_in word)))
+pub of_head : {A : Type 0} (r left : Reading) (line : file.Head → Option Line) (head : file.Head) (word : List ℕ) (result : Result A (Stop WorldFaultKind)) → Some head ≡ file.head_in word → Leaves result left (AfterForm r (line head)) → Leaves result left (AfterForm r (option_and_then line (file.head_in word)))
 of_head r left line head word result is h = subst (λ (o : Option file.Head). Leaves result left (AfterForm r (option_and_then line o))) is h
 
 -- what is said of a head that was read, in a line that the head alone makes
-pub of_mapped : {A : Type 0} (r left : Reading) (line : file.Head → Line) (head : file.Head) (word : List ℕ) (result : Result A (Stop WorldKind)) → Some head ≡ file.head_in word → Leaves result left (AfterForm r (Some (line head))) → Leaves result left (AfterForm r (option_map line (file.head_in word)))
+pub of_mapped : {A : Type 0} (r left : Reading) (line : file.Head → Line) (head : file.Head) (word : List ℕ) (result : Result A (Stop WorldFaultKind)) → Some head ≡ file.head_in word → Leaves result left (AfterForm r (Some (line head))) → Leaves result left (AfterForm r (option_map line (file.head_in word)))
 of_mapped r left line head word result is h = subst (λ (o : Option file.Head). Leaves result left (AfterForm r (option_map line o))) is h
 
 -- what is added is what is said of the head
-pub adds : {A : Type 0} (result : Result A (Stop WorldKind)) (left now : Reading) (head : file.Head) (sort : RowSort) (add : Row → Reading → Result Reading WorldKind) (d : Draft) (row : Row) → DraftSays (Ok d) head sort now → row ≡ row_of d → Leaves result left (λ said. said ≡ add row now) → Leaves result left (λ said. said ≡ with_head head add sort now)
+pub adds : {A : Type 0} (result : Result A (Stop WorldFaultKind)) (left now : Reading) (head : file.Head) (sort : RowSort) (add : Row → Reading → Result Reading WorldFaultKind) (d : Draft) (row : Row) → DraftSays (Ok d) head sort now → row ≡ row_of d → Leaves result left (λ said. said ≡ add row now) → Leaves result left (λ said. said ≡ with_head head add sort now)
 adds result left now head sort add d row h is = leaves_map result left (λ said. said ≡ add row now) (λ said. said ≡ with_head head add sort now) (λ said k. k ∙ ap (λ (w : Row). add w now) is ∙ sym (h.1 add))
 
 -- and so is its fault
-pub refuses : (s : Stop WorldKind) (left now : Reading) (head : file.Head) (sort : RowSort) (add : Row → Reading → Result Reading WorldKind) → DraftSays (Err s) head sort now → Leaves {A = Unit {0}} (Err s) left (λ said. said ≡ with_head head add sort now)
+pub refuses : (s : Stop WorldFaultKind) (left now : Reading) (head : file.Head) (sort : RowSort) (add : Row → Reading → Result Reading WorldFaultKind) → DraftSays (Err s) head sort now → Leaves {A = Unit {0}} (Err s) left (λ said. said ≡ with_head head add sort now)
 refuses stop.NoMemory left now head sort add h = tt
 refuses (stop.Fault kind) left now head sort add h = sym (h add)
 
 -- a row that answers by an expression
 pub says_head :
-    {A : Type 0} (result : Result A (Stop WorldKind)) (left r now : Reading) (text : List ℕ) (e : Expr) (head : file.Head) (add : Row → Reading → Result Reading WorldKind) (sort : Expr → RowSort) →
+    {A : Type 0} (result : Result A (Stop WorldFaultKind)) (left r now : Reading) (text : List ℕ) (e : Expr) (head : file.Head) (add : Row → Reading → Result Reading WorldFaultKind) (sort : Expr → RowSort) →
     now ≡ closed r → ReadsNumeric text (Some e) → Leaves result left (λ said. said ≡ with_head head add (sort e) now) → Leaves result left (SaysOf text (λ x. with_head head add (sort x) (closed r)))
 says_head result left r now text e head add sort is reads =
     leaves_map result left (λ said. said ≡ with_head head add (sort e) now) (SaysOf text (λ x. with_head head add (sort x) (closed r)))
     (λ said k. says_some text e (λ x. with_head head add (sort x) (closed r)) said reads (k ∙ ap (λ (q : Reading). with_head head add (sort e) q) is))
 
-placed_is : (t : Bool) (said : Result Reading WorldKind) → t ≡ true → said ≡ placed t said
+placed_is : (t : Bool) (said : Result Reading WorldFaultKind) → t ≡ true → said ≡ placed t said
 placed_is true said h = refl
 placed_is false said h = absurd (cc)
 
 -- a row whose length is an expression
-abbrev pub length_said : (r : Reading) (head : file.Head) → Expr → Result Reading WorldKind
+abbrev pub length_said : (r : Reading) (head : file.Head) → Expr → Result Reading WorldFaultKind
 length_said r head e = placed (is_group e) (with_head head with_action (TimedBy e None) (closed r))
 
 pub says_length :
-    {A : Type 0} (result : Result A (Stop WorldKind)) (left r now : Reading) (text : List ℕ) (e : Expr) (head : file.Head) →
+    {A : Type 0} (result : Result A (Stop WorldFaultKind)) (left r now : Reading) (text : List ℕ) (e : Expr) (head : file.Head) →
     is_group e ≡ true → now ≡ closed r → ReadsNumeric text (Some e) → Leaves result left (λ said. said ≡ with_head head with_action (TimedBy e None) now) → Leaves result left (SaysOf text (length_said r head))
 says_length result left r now text e head group is reads =
     leaves_map result left (λ said. said ≡ with_head head with_action (TimedBy e None) now) (SaysOf text (length_said r head))
@@ -85,7 +85,7 @@ pub timed_ms_is : (text : List ℕ) (o : Option file.Head) → starts_with nat_e
 timed_ms_is text None other = refl
 timed_ms_is text (Some head) other = ap (λ (t : Bool). if t then Some (TimedByLine head text) else number_line (TimedLine head) text) (sym other)
 
-ranged_is : (t : Bool) (said : Result Reading WorldKind) → t ≡ true → said ≡ ranged t said
+ranged_is : (t : Bool) (said : Result Reading WorldFaultKind) → t ≡ true → said ≡ ranged t said
 ranged_is true said h = refl
 ranged_is false said h = absurd (cc)
 
@@ -94,8 +94,8 @@ number_is w text is canonical = ap number_in (sym is) ∙ ap (λ (t : Bool). if 
 
 -- a row that lasts
 pub lasts :
-    {A : Type 0} (result : Result A (Stop WorldKind)) (left r now : Reading) (line : Option Line) (z : ℤ) (ms : ℕ) (head : file.Head) (sort : ℕ → RowSort) (form : ℤ → Line) →
-    ((x : ℤ) (said : Result Reading WorldKind) → said ≡ ranged (is_ms x) (with_head head with_action (sort (nat_abs x)) (closed r)) → AfterLine r (form x) said) →
+    {A : Type 0} (result : Result A (Stop WorldFaultKind)) (left r now : Reading) (line : Option Line) (z : ℤ) (ms : ℕ) (head : file.Head) (sort : ℕ → RowSort) (form : ℤ → Line) →
+    ((x : ℤ) (said : Result Reading WorldFaultKind) → said ≡ ranged (is_ms x) (with_head head with_action (sort (nat_abs x)) (closed r)) → AfterLine r (form x) said) →
     now ≡ closed r → line ≡ Some (form z) → Passes is_ms nat_abs z (Some ms) → Leaves result left (λ said. said ≡ with_head head with_action (sort ms) now) → Leaves result left (AfterForm r line)
 lasts result left r now line z ms head sort form after is said_line passes =
     leaves_map result left (λ said. said ≡ with_head head with_action (sort ms) now) (AfterForm r line)
@@ -121,8 +121,8 @@ replay_is text w letters rest head is is_letters is_rest none canonical all =
 
 -- a row of which a line says nothing more
 pub nothing_more :
-    {A : Type 0} (result : Result A (Stop WorldKind)) (left r now : Reading) (line : file.Head → Line) (head : file.Head) (row text : List ℕ) (add : Row → Reading → Result Reading WorldKind) (sort : RowSort) →
-    ((said : Result Reading WorldKind) → said ≡ with_head head add sort (closed r) → AfterLine r (line head) said) →
+    {A : Type 0} (result : Result A (Stop WorldFaultKind)) (left r now : Reading) (line : file.Head → Line) (head : file.Head) (row text : List ℕ) (add : Row → Reading → Result Reading WorldFaultKind) (sort : RowSort) →
+    ((said : Result Reading WorldFaultKind) → said ≡ with_head head add sort (closed r) → AfterLine r (line head) said) →
     now ≡ closed r → Some head ≡ file.head_in row → (length text == 0) ≡ true → Leaves result left (λ said. said ≡ with_head head add sort now) → Leaves result left (AfterForm r (told_line line row text))
 nothing_more result left r now line head row text add sort after is is_head none =
     let said_line : told_line line row text ≡ Some (line head) =
@@ -132,7 +132,7 @@ nothing_more result left r now line head row text add sort after is is_head none
 
 -- rounds whose numbers and runners are in their ranges
 pub rounds_said :
-    {A : Type 0} (result : Result A (Stop WorldKind)) (left r now : Reading) (ms last : ℤ) (time end : ℕ) (written : List Part) (whats : List What) →
+    {A : Type 0} (result : Result A (Stop WorldFaultKind)) (left r now : Reading) (ms last : ℤ) (time end : ℕ) (written : List Part) (whats : List What) →
     now ≡ closed r → Passes is_step nat_abs ms (Some time) → Passes is_ms nat_abs last (Some end) →
     list_all (λ part. is_runner (runners_of r) (runner_in part)) written ≡ true → whats ≡ map what_in written →
     Leaves result left (λ said. said ≡ with_rounds end time whats now) → Leaves result left (AfterLine r (EveryLine ms last written))
@@ -152,11 +152,11 @@ never_both true = refl
 never_both false = refl
 
 -- .. of which a runner is not there
-pub rounds_refused : (s : Stop WorldKind) (left r : Reading) (ms last : ℤ) (written : List Part) → PartsSay (Err s) written (runners_of r) →
+pub rounds_refused : (s : Stop WorldFaultKind) (left r : Reading) (ms last : ℤ) (written : List Part) → PartsSay (Err s) written (runners_of r) →
     Leaves {A = Unit {0}} (Err s) left (AfterLine r (EveryLine ms last written))
 rounds_refused stop.NoMemory left r ms last written h = tt
 rounds_refused (stop.Fault Range) left r ms last written h =
-    let said : Result Reading WorldKind = with_rounds (nat_abs last) (nat_abs ms) (map what_in written) (closed r) in
+    let said : Result Reading WorldFaultKind = with_rounds (nat_abs last) (nat_abs ms) (map what_in written) (closed r) in
     sym (ap (λ (b : Bool). ranged (is_step ms && is_ms last && b) said) h ∙ ap (λ (b : Bool). ranged b said) (never_both (is_step ms && is_ms last)))
 rounds_refused (stop.Fault Header) left r ms last written h = absurd h
 rounds_refused (stop.Fault BadLine) left r ms last written h = absurd h

@@ -6,7 +6,7 @@ use Rattle.base_texts.specs.declared.stop.Stop.TheVariants as stop
 use Rattle.spec_world.specs.declared.world.World.{World}
 use Rattle.spec_world.specs.Worlds.{IsValidWorld}
 use Rattle.spec_world_file.specs.declared.world_fault.WorldFault.{WorldFault}
-use Rattle.spec_world_file.specs.declared.world_fault.WorldKind.TheVariants.{Header}
+use Rattle.spec_world_file.specs.declared.world_fault.WorldFaultKind.TheVariants.{Header}
 use Rattle.spec_world_file.specs.WorldFile.{AfterLines, AllAfter, LinesMake, LinesRead, Reading, ReadsScript, ReadsWorld, ScriptReads, lines_in, no_header, nothing_read, script_after, without_return}
 use Rattle.world_reader.specs.Readings.{Gives, ScriptLines, ScriptMakes, no_script}
 

@@ -4,8 +4,8 @@ use Rattle.base_texts.specs.declared.stop.Stop.{Stop}
 use Rattle.base_texts.specs.declared.stop.Stop.TheVariants as stop
 use Rattle.spec_world.specs.declared.world.World.{World}
 use Rattle.spec_world_file.specs.declared.world_fault.WorldFault.{WorldFault}
-use Rattle.spec_world_file.specs.declared.world_fault.WorldKind.{WorldKind}
-use Rattle.spec_world_file.specs.declared.world_fault.WorldKind.TheVariants.{Header}
+use Rattle.spec_world_file.specs.declared.world_fault.WorldFaultKind.{WorldFaultKind}
+use Rattle.spec_world_file.specs.declared.world_fault.WorldFaultKind.TheVariants.{Header}
 use Rattle.spec_world_file.specs.WorldFile.{AfterLines, Reading, nothing_read, script_after, without_return}
 
 -- the value or the fault is one that is said; want of memory may come anywhere
@@ -15,7 +15,7 @@ Gives (Err stop.NoMemory) IsSaid = Unit {0}
 Gives (Err (stop.Fault f)) IsSaid = IsSaid (Err f)
 
 -- the fault of a line, with its number
-abbrev pub located : Stop WorldKind → ℕ → Stop WorldFault
+abbrev pub located : Stop WorldFaultKind → ℕ → Stop WorldFault
 located stop.NoMemory line = stop.NoMemory
 located (stop.Fault kind) line = stop.Fault (record { line = line; kind = kind })
 

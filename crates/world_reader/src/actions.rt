@@ -12,7 +12,7 @@ use base_tables::{MOST_OUTCOMES, is_canonical};
 use base_texts::{Items, Stop};
 use spec_script::{Cmp, Expr};
 use spec_world::{Row, RowSort};
-use spec_world_file::WorldKind;
+use spec_world_file::WorldFaultKind;
 use std::alloc::{AllocError, Global};
 use world_draft::Reading;
 use world_lines::{cut, head_in, int, is, is_name, ms, name_of, numeric};
@@ -78,7 +78,7 @@ pub fn read_condition(
     alloc: Global,
     reading: &mut Reading,
     text: &[u8],
-) -> Result<(), Stop<WorldKind>>
+) -> Result<(), Stop<WorldFaultKind>>
     requires { list_all is_line_byte text.now ≡ true }
     ensures { Leaves result reading.new (AfterForm reading.old (condition_line text.now)) }
 {
@@ -91,13 +91,17 @@ pub fn read_condition(
     } else if is(verb, "told") {
         read_sensed(alloc, reading, row, rest)
     } else {
-        Err(Stop::Fault(WorldKind::BadLine))
+        Err(Stop::Fault(WorldFaultKind::BadLine))
     }
 }
 
 /// Reads `action ROW timed MS`, `action ROW timed (EXPR)`, `action ROW replay MS OUTCOMES`, `action ROW gate EXPR` or
 /// `action ROW told`, from after `action`.
-pub fn read_action(alloc: Global, reading: &mut Reading, text: &[u8]) -> Result<(), Stop<WorldKind>>
+pub fn read_action(
+    alloc: Global,
+    reading: &mut Reading,
+    text: &[u8],
+) -> Result<(), Stop<WorldFaultKind>>
     requires { list_all is_line_byte text.now ≡ true }
     ensures { Leaves result reading.new (AfterForm reading.old (action_line text.now)) }
 {
@@ -112,7 +116,7 @@ pub fn read_action(alloc: Global, reading: &mut Reading, text: &[u8]) -> Result<
     } else if is(verb, "told") {
         read_told(alloc, reading, row, rest)
     } else {
-        Err(Stop::Fault(WorldKind::BadLine))
+        Err(Stop::Fault(WorldFaultKind::BadLine))
     }
 }
 
@@ -122,21 +126,21 @@ fn read_comparison(
     reading: &mut Reading,
     id: &[u8],
     text: &[u8],
-) -> Result<(), Stop<WorldKind>>
+) -> Result<(), Stop<WorldFaultKind>>
     ensures { Leaves result reading.new (AfterForm reading.old (is_line id.now text.now)) }
 {
     let (fact, rest) = cut(text);
     let (sign, rest) = cut(rest);
     let (number, rest) = cut(rest);
     if !is_name(id) || !is_name(fact) || !rest.is_empty() {
-        return Err(Stop::Fault(WorldKind::BadLine));
+        return Err(Stop::Fault(WorldFaultKind::BadLine));
     }
     match comparison(sign) {
         Some(op) if is_canonical(number) => {
             reading.close(alloc)?;
             compare(alloc, reading, id, fact, op, number)
         }
-        _ => Err(Stop::Fault(WorldKind::BadLine)),
+        _ => Err(Stop::Fault(WorldFaultKind::BadLine)),
     }
 }
 
@@ -148,7 +152,7 @@ fn compare(
     fact: &[u8],
     op: Cmp,
     number: &[u8],
-) -> Result<(), Stop<WorldKind>>
+) -> Result<(), Stop<WorldFaultKind>>
     requires named { IsTrue (worlds.is_name id.now) }
     requires canonical { numbers.is_canonical number.now ≡ true }
     requires open { reading.old.open_row ≡ None }
@@ -156,13 +160,13 @@ fn compare(
         Leaves result reading.new (λ said. said ≡ ranged (is_int n) (with_comparison id.now fact.now op n reading.old)) }
 {
     let Some(value) = int(number) else {
-        return Err(Stop::Fault(WorldKind::Range));
+        return Err(Stop::Fault(WorldFaultKind::Range));
     };
     if reading.has_taken(id) {
-        return Err(Stop::Fault(WorldKind::DoubleName));
+        return Err(Stop::Fault(WorldFaultKind::DoubleName));
     }
     let Some(fact) = reading.fact_number(fact) else {
-        return Err(Stop::Fault(WorldKind::NoName));
+        return Err(Stop::Fault(WorldFaultKind::NoName));
     };
     let id = name_of(alloc, id)?;
     reading.add_condition(
@@ -184,15 +188,15 @@ fn read_when(
     reading: &mut Reading,
     row: &[u8],
     text: &[u8],
-) -> Result<(), Stop<WorldKind>>
+) -> Result<(), Stop<WorldFaultKind>>
     requires { list_all is_line_byte text.now ≡ true }
     ensures { Leaves result reading.new (AfterForm reading.old (option_map (λ head. WhenLine head text.now) (file.head_in row.now))) }
 {
     let Some(head) = head_in(alloc, row)? else {
-        return Err(Stop::Fault(WorldKind::BadLine));
+        return Err(Stop::Fault(WorldFaultKind::BadLine));
     };
     let Some(expr) = numeric(alloc, text)? else {
-        return Err(Stop::Fault(WorldKind::BadLine));
+        return Err(Stop::Fault(WorldFaultKind::BadLine));
     };
     reading.close(alloc)?;
     match reading.draft_of(alloc, head.id, head.ports, RowSort::When(expr)) {
@@ -207,15 +211,15 @@ fn read_gate(
     reading: &mut Reading,
     row: &[u8],
     text: &[u8],
-) -> Result<(), Stop<WorldKind>>
+) -> Result<(), Stop<WorldFaultKind>>
     requires { list_all is_line_byte text.now ≡ true }
     ensures { Leaves result reading.new (AfterForm reading.old (option_map (λ head. GateLine head text.now) (file.head_in row.now))) }
 {
     let Some(head) = head_in(alloc, row)? else {
-        return Err(Stop::Fault(WorldKind::BadLine));
+        return Err(Stop::Fault(WorldFaultKind::BadLine));
     };
     let Some(expr) = numeric(alloc, text)? else {
-        return Err(Stop::Fault(WorldKind::BadLine));
+        return Err(Stop::Fault(WorldFaultKind::BadLine));
     };
     reading.close(alloc)?;
     match reading.draft_of(alloc, head.id, head.ports, RowSort::Gate(expr)) {
@@ -237,18 +241,18 @@ fn read_length(
     reading: &mut Reading,
     row: &[u8],
     text: &[u8],
-) -> Result<(), Stop<WorldKind>>
+) -> Result<(), Stop<WorldFaultKind>>
     requires { list_all is_line_byte text.now ≡ true }
     ensures { Leaves result reading.new (AfterForm reading.old (option_map (λ head. TimedByLine head text.now) (file.head_in row.now))) }
 {
     let Some(head) = head_in(alloc, row)? else {
-        return Err(Stop::Fault(WorldKind::BadLine));
+        return Err(Stop::Fault(WorldFaultKind::BadLine));
     };
     let Some(length) = numeric(alloc, text)? else {
-        return Err(Stop::Fault(WorldKind::BadLine));
+        return Err(Stop::Fault(WorldFaultKind::BadLine));
     };
     if !is_group(&length) {
-        return Err(Stop::Fault(WorldKind::BadLine));
+        return Err(Stop::Fault(WorldFaultKind::BadLine));
     }
     reading.close(alloc)?;
     let sort = RowSort::TimedBy {
@@ -267,7 +271,7 @@ fn read_timed(
     reading: &mut Reading,
     row: &[u8],
     text: &[u8],
-) -> Result<(), Stop<WorldKind>>
+) -> Result<(), Stop<WorldFaultKind>>
     requires { list_all is_line_byte text.now ≡ true }
     ensures { Leaves result reading.new (AfterForm reading.old (option_and_then (timed_line text.now) (file.head_in row.now))) }
 {
@@ -284,20 +288,20 @@ fn read_fixed(
     reading: &mut Reading,
     row: &[u8],
     text: &[u8],
-) -> Result<(), Stop<WorldKind>>
+) -> Result<(), Stop<WorldFaultKind>>
     ensures { Leaves result reading.new (AfterForm reading.old
         (option_and_then (λ head. number_line (TimedLine head) text.now) (file.head_in row.now))) }
 {
     let Some(head) = head_in(alloc, row)? else {
-        return Err(Stop::Fault(WorldKind::BadLine));
+        return Err(Stop::Fault(WorldFaultKind::BadLine));
     };
     let (number, rest) = cut(text);
     if !rest.is_empty() || !is_canonical(number) {
-        return Err(Stop::Fault(WorldKind::BadLine));
+        return Err(Stop::Fault(WorldFaultKind::BadLine));
     }
     reading.close(alloc)?;
     let Some(ms) = ms(number) else {
-        return Err(Stop::Fault(WorldKind::Range));
+        return Err(Stop::Fault(WorldFaultKind::Range));
     };
     match reading.draft_of(
         alloc,
@@ -316,20 +320,20 @@ fn read_replay(
     reading: &mut Reading,
     row: &[u8],
     text: &[u8],
-) -> Result<(), Stop<WorldKind>>
+) -> Result<(), Stop<WorldFaultKind>>
     ensures { Leaves result reading.new (AfterForm reading.old (option_and_then (replay_line text.now) (file.head_in row.now))) }
 {
     let Some(head) = head_in(alloc, row)? else {
-        return Err(Stop::Fault(WorldKind::BadLine));
+        return Err(Stop::Fault(WorldFaultKind::BadLine));
     };
     let (number, rest) = cut(text);
     let (letters, rest) = cut(rest);
     if !rest.is_empty() || !is_canonical(number) || !are_outcomes(letters) {
-        return Err(Stop::Fault(WorldKind::BadLine));
+        return Err(Stop::Fault(WorldFaultKind::BadLine));
     }
     reading.close(alloc)?;
     let Some(ms) = ms(number) else {
-        return Err(Stop::Fault(WorldKind::Range));
+        return Err(Stop::Fault(WorldFaultKind::Range));
     };
     let outcomes = Items::of(outcomes(alloc, letters)?);
     match reading.draft_of(alloc, head.id, head.ports, RowSort::Replay { ms, outcomes }) {
@@ -344,14 +348,14 @@ fn read_sensed(
     reading: &mut Reading,
     row: &[u8],
     text: &[u8],
-) -> Result<(), Stop<WorldKind>>
+) -> Result<(), Stop<WorldFaultKind>>
     ensures { Leaves result reading.new (AfterForm reading.old (told_line SensedLine row.now text.now)) }
 {
     let Some(head) = head_in(alloc, row)? else {
-        return Err(Stop::Fault(WorldKind::BadLine));
+        return Err(Stop::Fault(WorldFaultKind::BadLine));
     };
     if !text.is_empty() {
-        return Err(Stop::Fault(WorldKind::BadLine));
+        return Err(Stop::Fault(WorldFaultKind::BadLine));
     }
     reading.close(alloc)?;
     match reading.draft_of(alloc, head.id, head.ports, RowSort::Sensed) {
@@ -366,14 +370,14 @@ fn read_told(
     reading: &mut Reading,
     row: &[u8],
     text: &[u8],
-) -> Result<(), Stop<WorldKind>>
+) -> Result<(), Stop<WorldFaultKind>>
     ensures { Leaves result reading.new (AfterForm reading.old (told_line ToldLine row.now text.now)) }
 {
     let Some(head) = head_in(alloc, row)? else {
-        return Err(Stop::Fault(WorldKind::BadLine));
+        return Err(Stop::Fault(WorldFaultKind::BadLine));
     };
     if !text.is_empty() {
-        return Err(Stop::Fault(WorldKind::BadLine));
+        return Err(Stop::Fault(WorldFaultKind::BadLine));
     }
     reading.close(alloc)?;
     let outs = Items::of(Vec::new(alloc));

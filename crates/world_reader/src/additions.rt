@@ -6,33 +6,37 @@ ghost use Rattle.world_draft.specs.Readings.{Leaves};
 use base_tables::is_canonical;
 use base_texts::Stop;
 use spec_world::{How, Out, Set};
-use spec_world_file::WorldKind;
+use spec_world_file::WorldFaultKind;
 use std::alloc::Global;
 use world_draft::Reading;
 use world_lines::{cut, int, is, is_name, name_of, numeric};
 
 /// Reads `fails EXPR`, from after `fails`; so below.
-pub fn read_fails(alloc: Global, reading: &mut Reading, text: &[u8]) -> Result<(), Stop<WorldKind>>
+pub fn read_fails(
+    alloc: Global,
+    reading: &mut Reading,
+    text: &[u8],
+) -> Result<(), Stop<WorldFaultKind>>
     requires { list_all is_line_byte text.now ≡ true }
     ensures { Leaves result reading.new (AfterForm reading.old (Some (FailsLine text.now))) }
 {
     match numeric(alloc, text)? {
         Some(expr) => reading.add_fails(expr),
-        None => Err(Stop::Fault(WorldKind::BadLine)),
+        None => Err(Stop::Fault(WorldFaultKind::BadLine)),
     }
 }
 
 /// Reads `needs ID`.
-pub fn read_need(reading: &mut Reading, text: &[u8]) -> Result<(), Stop<WorldKind>>
+pub fn read_need(reading: &mut Reading, text: &[u8]) -> Result<(), Stop<WorldFaultKind>>
     ensures { Leaves result reading.new (AfterForm reading.old (name_line NeedsLine text.now)) }
 {
     let (id, rest) = cut(text);
     if !is_name(id) || !rest.is_empty() || !reading.is_modelled() {
-        return Err(Stop::Fault(WorldKind::BadLine));
+        return Err(Stop::Fault(WorldFaultKind::BadLine));
     }
     match reading.comparison_number(id) {
         Some(number) => reading.add_need(number),
-        None => Err(Stop::Fault(WorldKind::NoName)),
+        None => Err(Stop::Fault(WorldFaultKind::NoName)),
     }
 }
 
@@ -50,32 +54,36 @@ fn how_of(sign: &[u8]) -> Option<How>
 }
 
 /// Reads `sets NAME = INT` or `sets NAME += INT`.
-pub fn read_effect(reading: &mut Reading, text: &[u8]) -> Result<(), Stop<WorldKind>>
+pub fn read_effect(reading: &mut Reading, text: &[u8]) -> Result<(), Stop<WorldFaultKind>>
     ensures { Leaves result reading.new (AfterForm reading.old (sets_line text.now)) }
 {
     let (name, rest) = cut(text);
     let (sign, rest) = cut(rest);
     let (number, rest) = cut(rest);
     if !is_name(name) || !rest.is_empty() {
-        return Err(Stop::Fault(WorldKind::BadLine));
+        return Err(Stop::Fault(WorldFaultKind::BadLine));
     }
     let Some(how) = how_of(sign) else {
-        return Err(Stop::Fault(WorldKind::BadLine));
+        return Err(Stop::Fault(WorldFaultKind::BadLine));
     };
     if !is_canonical(number) || !reading.is_modelled() {
-        return Err(Stop::Fault(WorldKind::BadLine));
+        return Err(Stop::Fault(WorldFaultKind::BadLine));
     }
     let Some(value) = int(number) else {
-        return Err(Stop::Fault(WorldKind::Range));
+        return Err(Stop::Fault(WorldFaultKind::Range));
     };
     match reading.fact_number(name) {
         Some(fact) => reading.add_set(Set { fact, how, value }),
-        None => Err(Stop::Fault(WorldKind::NoName)),
+        None => Err(Stop::Fault(WorldFaultKind::NoName)),
     }
 }
 
 /// Reads `out PORT = EXPR` or `out PORT`.
-pub fn read_out(alloc: Global, reading: &mut Reading, text: &[u8]) -> Result<(), Stop<WorldKind>>
+pub fn read_out(
+    alloc: Global,
+    reading: &mut Reading,
+    text: &[u8],
+) -> Result<(), Stop<WorldFaultKind>>
     requires { list_all is_line_byte text.now ≡ true }
     ensures { Leaves result reading.new (AfterForm reading.old (out_line text.now)) }
 {
@@ -89,17 +97,17 @@ pub fn read_out(alloc: Global, reading: &mut Reading, text: &[u8]) -> Result<(),
             let port = name_of(alloc, port)?;
             reading.add_out(Out { port, expr })
         }
-        None => Err(Stop::Fault(WorldKind::BadLine)),
+        None => Err(Stop::Fault(WorldFaultKind::BadLine)),
     }
 }
 
 /// Reads `out PORT`, of an output for which a value may be told.
-fn read_name(alloc: Global, reading: &mut Reading, text: &[u8]) -> Result<(), Stop<WorldKind>>
+fn read_name(alloc: Global, reading: &mut Reading, text: &[u8]) -> Result<(), Stop<WorldFaultKind>>
     ensures { Leaves result reading.new (AfterForm reading.old (name_line NameLine text.now)) }
 {
     let (port, rest) = cut(text);
     if !is_name(port) || !rest.is_empty() {
-        return Err(Stop::Fault(WorldKind::BadLine));
+        return Err(Stop::Fault(WorldFaultKind::BadLine));
     }
     let port = name_of(alloc, port)?;
     reading.add_name(alloc, port)

@@ -11,14 +11,18 @@ use crate::events::{
 use crate::rounds::read_every;
 use crate::tellings::read_tell;
 use base_texts::Stop;
-use spec_world_file::WorldKind;
+use spec_world_file::WorldFaultKind;
 use std::alloc::Global;
 use world_draft::Reading;
 use world_lines::{content, cut, is, is_ignored, is_line};
 
 /// Reads the text of a line: adds what it says, or answers what is wrong with it. `NoMemory` (want of memory, that is,
 /// out of memory), here and in all readers of lines, where an allocation fails.
-pub fn read_text(alloc: Global, reading: &mut Reading, text: &[u8]) -> Result<(), Stop<WorldKind>>
+pub fn read_text(
+    alloc: Global,
+    reading: &mut Reading,
+    text: &[u8],
+) -> Result<(), Stop<WorldFaultKind>>
     ensures { Leaves result reading.new (AfterText reading.old text.now) }
 {
     let text = content(text);
@@ -26,7 +30,7 @@ pub fn read_text(alloc: Global, reading: &mut Reading, text: &[u8]) -> Result<()
         return Ok(());
     }
     if !is_line(text) {
-        return Err(Stop::Fault(WorldKind::BadLine));
+        return Err(Stop::Fault(WorldFaultKind::BadLine));
     }
     let (kind, rest) = cut(text);
     read_line(alloc, reading, kind, rest)
@@ -38,7 +42,7 @@ fn read_line(
     reading: &mut Reading,
     kind: &[u8],
     text: &[u8],
-) -> Result<(), Stop<WorldKind>>
+) -> Result<(), Stop<WorldFaultKind>>
     requires { list_all is_line_byte text.now ≡ true }
     ensures { Leaves result reading.new (AfterForm reading.old (line_by kind.now text.now)) }
 {
@@ -67,7 +71,7 @@ fn read_event(
     reading: &mut Reading,
     kind: &[u8],
     text: &[u8],
-) -> Result<(), Stop<WorldKind>>
+) -> Result<(), Stop<WorldFaultKind>>
     ensures { Leaves result reading.new (AfterForm reading.old (event_line kind.now text.now)) }
 {
     if is(kind, "goal") {
@@ -87,6 +91,6 @@ fn read_event(
     } else if is(kind, "every") {
         read_every(alloc, reading, text)
     } else {
-        Err(Stop::Fault(WorldKind::BadLine))
+        Err(Stop::Fault(WorldFaultKind::BadLine))
     }
 }

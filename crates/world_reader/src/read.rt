@@ -9,7 +9,7 @@ use crate::forms::read_text;
 use crate::unique::read_worlds_are_valid;
 use base_texts::{NoMemory, Stop};
 use spec_world::World;
-use spec_world_file::{WorldFault, WorldKind};
+use spec_world_file::{WorldFault, WorldFaultKind};
 use std::alloc::Global;
 use world_draft::Reading;
 use world_lines::{is, parts, trimmed, without_rest};
@@ -35,7 +35,7 @@ fn world_of(alloc: Global, lines: &[&[u8]]) -> Result<World, Stop<WorldFault>>
         [first, rest @ ..] if is(trimmed(first), "bt-world 1") => world_following(alloc, rest),
         _ => Err(Stop::Fault(WorldFault {
             line: 1,
-            kind: WorldKind::Header,
+            kind: WorldFaultKind::Header,
         })),
     }
 }
@@ -77,7 +77,7 @@ fn script_of(alloc: Global, lines: &[&[u8]]) -> Result<(World, Reading), Stop<Wo
         [first, rest @ ..] if is(trimmed(first), "bt-world 1") => script_following(alloc, rest),
         _ => Err(Stop::Fault(WorldFault {
             line: 1,
-            kind: WorldKind::Header,
+            kind: WorldFaultKind::Header,
         })),
     }
 }
@@ -131,7 +131,7 @@ fn script_made(alloc: Global, reading: Reading) -> Result<(World, Reading), NoMe
 }
 
 /// What is wrong with a line, with its number.
-fn located(stop: Stop<WorldKind>, line: u32) -> Stop<WorldFault>
+fn located(stop: Stop<WorldFaultKind>, line: u32) -> Stop<WorldFault>
     ensures { result ≡ readings.located stop line }
 {
     match stop {

@@ -7,7 +7,7 @@ ghost use Rattle.world_draft.specs.Readings.{Leaves};
 use base_tables::is_canonical;
 use base_texts::{Items, Stop};
 use spec_world::{Telling, ToldOut, What};
-use spec_world_file::WorldKind;
+use spec_world_file::WorldFaultKind;
 use std::alloc::Global;
 use world_draft::{Reading, told_outs};
 use world_lines::{cut, is, one_of, outs_in, uid};
@@ -38,20 +38,24 @@ fn telling(succeeds: bool, outs: Items<ToldOut>) -> Telling
 }
 
 /// Reads `tell R UID SUCCESS NAME=VALUE ..` or `tell R UID FAILURE`, from after `tell`.
-pub fn read_tell(alloc: Global, reading: &mut Reading, text: &[u8]) -> Result<(), Stop<WorldKind>>
+pub fn read_tell(
+    alloc: Global,
+    reading: &mut Reading,
+    text: &[u8],
+) -> Result<(), Stop<WorldFaultKind>>
     ensures { Leaves result reading.new (AfterForm reading.old (tell_line text.now)) }
 {
     let (runner, rest) = cut(text);
     let (leaf, rest) = cut(rest);
     let (status, rest) = cut(rest);
     if !is_canonical(runner) || !is_canonical(leaf) {
-        return Err(Stop::Fault(WorldKind::BadLine));
+        return Err(Stop::Fault(WorldFaultKind::BadLine));
     }
     match success(status) {
         Some(succeeds) if succeeds || rest.is_empty() => {
             tell(alloc, reading, runner, leaf, succeeds, rest)
         }
-        _ => Err(Stop::Fault(WorldKind::BadLine)),
+        _ => Err(Stop::Fault(WorldFaultKind::BadLine)),
     }
 }
 
@@ -63,21 +67,21 @@ fn tell(
     leaf: &[u8],
     succeeds: bool,
     text: &[u8],
-) -> Result<(), Stop<WorldKind>>
+) -> Result<(), Stop<WorldFaultKind>>
     requires runner { numbers.is_canonical runner.now ≡ true }
     requires leaf { numbers.is_canonical leaf.now ≡ true }
     ensures { Leaves result reading.new (AfterLine reading.old
         (TellLine (signed_digits_value 10 runner.now) (signed_digits_value 10 leaf.now) succeeds text.now)) }
 {
     let Some(outs) = outs_in(alloc, text)? else {
-        return Err(Stop::Fault(WorldKind::BadLine));
+        return Err(Stop::Fault(WorldFaultKind::BadLine));
     };
     reading.close(alloc)?;
     let Some(runner) = one_of(runner, reading.runners()) else {
-        return Err(Stop::Fault(WorldKind::Range));
+        return Err(Stop::Fault(WorldFaultKind::Range));
     };
     let Some(uid) = uid(leaf) else {
-        return Err(Stop::Fault(WorldKind::Range));
+        return Err(Stop::Fault(WorldFaultKind::Range));
     };
     let outs = told_outs(alloc, outs.as_slice())?;
     reading.add_event(What::Tell {

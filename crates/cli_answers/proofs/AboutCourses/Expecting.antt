@@ -23,7 +23,7 @@ use Rattle.spec_program.specs.declared.exit.Exit.TheVariants as exit
 use Rattle.spec_program.specs.Answers.{Gave, Side, side}
 use Rattle.spec_program.specs.Expecting.{JoinExpects, expect_exit, expecting}
 use Rattle.spec_program.specs.Output.{AreUncalled, Ending}
-use Rattle.spec_program.specs.Refused.{expect_refused, join_refused}
+use Rattle.spec_program.specs.RefusalOutputs.{expect_refused, join_refused}
 use Rattle.run_arena.specs.Joining.{Joins}
 use Rattle.run_loop.specs.declared.runs.Runs.{Runs}
 use Rattle.run_loop.specs.Begun.{AreBegun}

@@ -8,7 +8,7 @@ use Rattle.spec_run.specs.Drivers.{DriverState, kind_of_row, place_of_kind}
 use Rattle.cli_refusals.specs.declared.refusal.Refusal.TheVariants as refusal
 use Rattle.spec_program.specs.Answers.{Gave, Side, side, IsWhole}
 use Rattle.cli_refusals.specs.Printing.{IsSpoken}
-use Rattle.spec_program.specs.Refused.{join_refused, no_goal}
+use Rattle.spec_program.specs.RefusalOutputs.{join_refused, no_goal}
 use Rattle.cli_refusals.specs.Ends.{Ends, EndsAt}
 use Rattle.spec_program.specs.Output.{Output}
 use Rattle.std.specs.List.{All}

@@ -6,7 +6,7 @@ ghost use Rattle.spec_outside.specs.Appending.{Appended, AppendedPrefix};
 ghost use Rattle.spec_outside.specs.Counts.{Rose};
 ghost use Rattle.spec_program.specs.Exclusives.{exclusive_output, meeting_word, pair_line, pairs_line, pairs_output};
 ghost use Rattle.spec_program.specs.Refusals.{no_leaf_words};
-ghost use Rattle.spec_program.specs.Refused.{no_leaf};
+ghost use Rattle.spec_program.specs.RefusalOutputs.{no_leaf};
 ghost use Rattle.spec_tree.specs.Trees.{IsValid};
 ghost use Rattle.tree_exclusive.specs.Runs.{AreApart};
 ghost use Rattle.tree_exclusive.specs.Steps.{IsFound};

@@ -20,7 +20,7 @@ use Rattle.spec_world.specs.declared.world.Row.{Row}
 use Rattle.spec_world.specs.declared.world.World.{World}
 use Rattle.spec_world.specs.Worlds.{IsValidEvent, IsValidWorld}
 use Rattle.spec_world_file.specs.declared.world_fault.WorldFault.{WorldFault}
-use Rattle.spec_world_file.specs.declared.world_fault.WorldKind.TheVariants.{Header}
+use Rattle.spec_world_file.specs.declared.world_fault.WorldFaultKind.TheVariants.{Header}
 use Rattle.spec_world_file.specs.WorldFile.{AfterLines, AllAfter, LinesMake, LinesRead, Reading, ReadsScript, lines_in, no_header, nothing_read, script_after, without_return}
 use Rattle.world_reader.proofs.AboutUnique.Validity.{valid_world}
 use Rattle.world_reader.proofs.Scripts.{lines_make}

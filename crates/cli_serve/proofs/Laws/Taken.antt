@@ -33,7 +33,7 @@ use Rattle.spec_world.specs.declared.world.What.{What}
 use Rattle.spec_world.specs.declared.world.What.TheVariants.{Tick, Halt, Change, Tell}
 use Rattle.spec_world.specs.declared.world.World.{World}
 use Rattle.spec_world.specs.Worlds.{IsValidEvent, IsValidWhat}
-use Rattle.spec_world_file.specs.declared.world_fault.WorldKind.{WorldKind}
+use Rattle.spec_world_file.specs.declared.world_fault.WorldFaultKind.{WorldFaultKind}
 use Rattle.spec_world_file.specs.WorldFile.{Reading}
 use Rattle.tree_exclusive.specs.Runs.{NamesRunner}
 use Rattle.cli_serve.proofs.Laws.HeldEvents.{AreTaken}
@@ -96,12 +96,12 @@ asked_takes Finish number s Rest takes said is = subst (λ (x : Said). Takes s x
 asked_takes At number s Rest takes said (rest, goes, is) = subst (λ (x : Said). Takes s x) (sym is) (takes s rest goes)
 asked_takes (Make event) number s Rest takes said is = taken_takes (misuse s event) number s event refl Rest takes said is
 
-line_takes : (asks : Result (Request × Reading) WorldKind) (number : ℕ) (s : Sitting) (Rest : Reading → Ahead) → ((r : Reading) → TakesAhead (Rest r)) → (said : Said) → LineSaid asks number s Rest said → Takes s said
+line_takes : (asks : Result (Request × Reading) WorldFaultKind) (number : ℕ) (s : Sitting) (Rest : Reading → Ahead) → ((r : Reading) → TakesAhead (Rest r)) → (said : Said) → LineSaid asks number s Rest said → Takes s said
 line_takes (Ok asked) number s Rest takes said is = asked_takes asked.0 number s (Rest asked.1) (takes asked.1) said is
 line_takes (Err kind) number s Rest takes said is = subst (λ (x : Said). Takes s x) (sym is) (finish_takes exit.Request s)
 
 next_takes : (late : Bool) (text : List ℕ) (number : ℕ) (r : Reading) (s : Sitting) (Rest : Reading → Ahead) → ((left : Reading) → TakesAhead (Rest left)) → (said : Said) →
-    MatchBool late (said ≡ refuse request.TooMany number s) ((asks : Result (Request × Reading) WorldKind) × RequestReads r text asks × LineSaid asks number s Rest said) → Takes s said
+    MatchBool late (said ≡ refuse request.TooMany number s) ((asks : Result (Request × Reading) WorldFaultKind) × RequestReads r text asks × LineSaid asks number s Rest said) → Takes s said
 next_takes true text number r s Rest takes said refused = subst (λ (x : Said). Takes s x) (sym refused) (finish_takes exit.Request s)
 next_takes false text number r s Rest takes said (asks, reads, goes) = line_takes asks number s Rest takes said goes
 

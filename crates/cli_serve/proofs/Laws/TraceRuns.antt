@@ -28,7 +28,7 @@ use Rattle.spec_world.specs.declared.world.Event.{Event}
 use Rattle.spec_world.specs.declared.world.What.{What}
 use Rattle.spec_world.specs.declared.world.What.TheVariants.{Tick, Halt, Change, Tell}
 use Rattle.spec_world.specs.declared.world.World.{World}
-use Rattle.spec_world_file.specs.declared.world_fault.WorldKind.{WorldKind}
+use Rattle.spec_world_file.specs.declared.world_fault.WorldFaultKind.{WorldFaultKind}
 use Rattle.spec_world_file.specs.WorldFile.{Reading}
 use Rattle.cli_serve.proofs.Laws.TraceLines.{block_stays, kept_lines, stays}
 
@@ -121,13 +121,13 @@ asked_traces Finish number s Rest tells said is = subst (λ (x : Said). Traces s
 asked_traces At number s Rest tells said (rest, goes, is) = subst (λ (x : Said). Traces s x) (sym is) (tells s rest goes)
 asked_traces (Make event) number s Rest tells said is = taken_traces (misuse s event) number s event Rest tells said is
 
-line_traces : (asks : Result (Request × Reading) WorldKind) (number : ℕ) (s : Sitting) (Rest : Reading → Ahead) → ((r : Reading) → TellsRun (Rest r)) → (said : Said) → LineSaid asks number s Rest said → Traces s said
+line_traces : (asks : Result (Request × Reading) WorldFaultKind) (number : ℕ) (s : Sitting) (Rest : Reading → Ahead) → ((r : Reading) → TellsRun (Rest r)) → (said : Said) → LineSaid asks number s Rest said → Traces s said
 line_traces (Ok asked) number s Rest tells said is = asked_traces asked.0 number s (Rest asked.1) (tells asked.1) said is
 line_traces (Err kind) number s Rest tells said is = subst (λ (x : Said). Traces s x) (sym is) (refuse_traces (request.Line kind) number s)
 
 -- .. and the lines after it, of which there may be no more
 next_traces : (late : Bool) (text : List ℕ) (number : ℕ) (r : Reading) (s : Sitting) (Rest : Reading → Ahead) → ((left : Reading) → TellsRun (Rest left)) → (said : Said) →
-    MatchBool late (said ≡ refuse request.TooMany number s) ((asks : Result (Request × Reading) WorldKind) × RequestReads r text asks × LineSaid asks number s Rest said) → Traces s said
+    MatchBool late (said ≡ refuse request.TooMany number s) ((asks : Result (Request × Reading) WorldFaultKind) × RequestReads r text asks × LineSaid asks number s Rest said) → Traces s said
 next_traces true text number r s Rest tells said refused = subst (λ (x : Said). Traces s x) (sym refused) (refuse_traces request.TooMany number s)
 next_traces false text number r s Rest tells said (asks, reads, goes) = line_traces asks number s Rest tells said goes
 

@@ -4,20 +4,20 @@ ghost use Rattle.std.specs.Prelude.{◌≤◌, length};
 
 use base_outside::{SinkFault, SureSink};
 use base_texts::{NoMemory, Stop};
-use spec_world_file::{GroundFault, WorldKind};
+use spec_world_file::{GroundFault, WorldFaultKind};
 use std::alloc::Global;
 use world_ground::{Ground, read_ground, world_of, write_ground};
 
 /// A kind of fault of a world script.
-fn kind_text(kind: WorldKind) -> &'static str {
+fn kind_text(kind: WorldFaultKind) -> &'static str {
     match kind {
-        WorldKind::Header => "Header",
-        WorldKind::BadLine => "BadLine",
-        WorldKind::Range => "Range",
-        WorldKind::DoubleName => "DoubleName",
-        WorldKind::NoName => "NoName",
-        WorldKind::MomentBack => "MomentBack",
-        WorldKind::TooMany => "TooMany",
+        WorldFaultKind::Header => "Header",
+        WorldFaultKind::BadLine => "BadLine",
+        WorldFaultKind::Range => "Range",
+        WorldFaultKind::DoubleName => "DoubleName",
+        WorldFaultKind::NoName => "NoName",
+        WorldFaultKind::MomentBack => "MomentBack",
+        WorldFaultKind::TooMany => "TooMany",
     }
 }
 

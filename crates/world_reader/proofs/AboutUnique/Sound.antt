@@ -27,7 +27,7 @@ use Rattle.spec_world.specs.declared.world.Event.{Event}
 use Rattle.spec_world.specs.declared.world.Fact.{Fact}
 use Rattle.spec_world.specs.declared.world.Row.{Row}
 use Rattle.spec_world.specs.declared.world.What.{What}
-use Rattle.spec_world_file.specs.declared.world_fault.WorldKind.{WorldKind}
+use Rattle.spec_world_file.specs.declared.world_fault.WorldFaultKind.{WorldFaultKind}
 use Rattle.spec_world.specs.Worlds.{AreNames, AreNumbers, IsComparisonIn, IsExprOver, IsValidWhat, IsValidWorld, ids_of_rows, is_comparison, is_name, names_of_facts}
 use Rattle.spec_tree.specs.Numbers.{in_range, is_int}
 use Rattle.spec_world_file.specs.WorldFile.{Reading, ReadsNumeric, closed, comparison_number, fact_number, is_known, is_ms, is_uid, knows_all, numbered, placed, ranged, repeats, runners_of, where_compares, with_event, with_fact, with_goal, with_moment, with_runners, world_of}
@@ -39,7 +39,7 @@ pub record Sound (r : Reading) : Type 0 where
   pub late : All (λ e. e.at ≤ r.moment) r.events
   pub moment : r.moment ≤ 1000000000000
 
-abbrev pub Stays : Result Reading WorldKind → Type 0
+abbrev pub Stays : Result Reading WorldFaultKind → Type 0
 Stays (Ok r) = Sound r
 Stays (Err kind) = Unit {0}
 
@@ -57,19 +57,19 @@ pub any-map : {X Y : Type 0} (p : Y → Bool) (f : X → Y) (xs : List X) → li
 any-map p f [] = refl
 any-map p f (x ∷ xs) = ap (λ (b : Bool). p (f x) || b) (any-map p f xs)
 
-pub stays_else : (b : Bool) (kind : WorldKind) (said : Result Reading WorldKind) → (b ≡ false → Stays said) → Stays (if b then Err kind else said)
+pub stays_else : (b : Bool) (kind : WorldFaultKind) (said : Result Reading WorldFaultKind) → (b ≡ false → Stays said) → Stays (if b then Err kind else said)
 stays_else true kind said h = tt
 stays_else false kind said h = h refl
 
-pub stays_ranged : (b : Bool) (said : Result Reading WorldKind) → (b ≡ true → Stays said) → Stays (ranged b said)
+pub stays_ranged : (b : Bool) (said : Result Reading WorldFaultKind) → (b ≡ true → Stays said) → Stays (ranged b said)
 stays_ranged true said h = h refl
 stays_ranged false said h = tt
 
-pub stays_placed : (b : Bool) (said : Result Reading WorldKind) → (b ≡ true → Stays said) → Stays (placed b said)
+pub stays_placed : (b : Bool) (said : Result Reading WorldFaultKind) → (b ≡ true → Stays said) → Stays (placed b said)
 stays_placed true said h = h refl
 stays_placed false said h = tt
 
-pub stays_numbered : (o : Option ℕ) (said : ℕ → Result Reading WorldKind) → ((n : ℕ) → o ≡ Some n → Stays (said n)) → Stays (numbered o said)
+pub stays_numbered : (o : Option ℕ) (said : ℕ → Result Reading WorldFaultKind) → ((n : ℕ) → o ≡ Some n → Stays (said n)) → Stays (numbered o said)
 stays_numbered None said h = tt
 stays_numbered (Some n) said h = h n refl
 

@@ -12,7 +12,7 @@ use Rattle.spec_world.specs.declared.world.Event.{Event}
 use Rattle.spec_world.specs.declared.world.Fact.{Fact}
 use Rattle.spec_world.specs.declared.world.What.{What}
 use Rattle.spec_world.specs.Worlds.{IsValidEvent, IsValidWhat}
-use Rattle.spec_world_file.specs.declared.world_fault.WorldKind.{WorldKind}
+use Rattle.spec_world_file.specs.declared.world_fault.WorldFaultKind.{WorldFaultKind}
 use Rattle.spec_world_file.specs.WorldFile.{HaltPart, Part, Reading, TickPart, is_runner, rounds, runner_in, runners_of, steps_to, what_in, with_rounds, world_of}
 use Rattle.world_draft.proofs.AboutRounds.{one_more}
 use Rattle.world_reader.proofs.AboutUnique.Grown.{world_with_events}

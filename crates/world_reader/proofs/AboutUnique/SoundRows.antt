@@ -13,7 +13,7 @@ use Rattle.spec_world.specs.declared.world.Row.{Row}
 use Rattle.spec_world.specs.declared.world.RowSort.{RowSort}
 use Rattle.spec_world.specs.declared.world.RowSort.TheVariants.{Is, When, Timed, TimedBy, Replay, Gate, Sensed, Told}
 use Rattle.spec_world.specs.declared.world.Set.{Set}
-use Rattle.spec_world_file.specs.declared.world_fault.WorldKind.{WorldKind}
+use Rattle.spec_world_file.specs.declared.world_fault.WorldFaultKind.{WorldFaultKind}
 use Rattle.spec_tree.specs.Names.{is_reserved}
 use Rattle.spec_world.specs.Worlds.{IsComparisonIn, IsExprOver, AreNames, AreNumbers, IsValidRow, IsValidSet, IsValidSort, IsValidWorld, facts_set, ids_of_rows, is_comparison, is_modelled, is_name, names_of_facts, ports_written}
 use Rattle.spec_tree.specs.Numbers.{is_int}
@@ -72,7 +72,7 @@ stays_action r row none h may =
     })
 
 pub stays_head :
-    (r : Reading) (head : Head) (add : Row → Reading → Result Reading WorldKind) (sort : RowSort) → NamedHead head →
+    (r : Reading) (head : Head) (add : Row → Reading → Result Reading WorldFaultKind) (sort : RowSort) → NamedHead head →
     (knows_sort head.ports r.facts sort ≡ true → IsValidSort r.facts head.ports sort) →
     (MayJoin r (plain_row head.id head.ports sort) → Stays (add (plain_row head.id head.ports sort) r)) →
     Stays (with_head head add sort r)
@@ -102,15 +102,15 @@ stays_comparison r id fact op value none h named int =
 -- ---- More of the open action
 
 -- what an addition makes of a row
-abbrev pub Adds : List Fact → List Row → Row → Result Row WorldKind → Type 0
+abbrev pub Adds : List Fact → List Row → Row → Result Row WorldFaultKind → Type 0
 Adds facts rows row (Ok new) = (new.id ≡ row.id) × (is_comparison row.sort ≡ is_comparison new.sort) × IsValidRow facts rows new
 Adds facts rows row (Err kind) = Unit {0}
 
-adds_else : (facts : List Fact) (rows : List Row) (row : Row) (b : Bool) (kind : WorldKind) (said : Result Row WorldKind) → (b ≡ false → Adds facts rows row said) → Adds facts rows row (if b then Err kind else said)
+adds_else : (facts : List Fact) (rows : List Row) (row : Row) (b : Bool) (kind : WorldFaultKind) (said : Result Row WorldFaultKind) → (b ≡ false → Adds facts rows row said) → Adds facts rows row (if b then Err kind else said)
 adds_else facts rows row true kind said h = tt
 adds_else facts rows row false kind said h = h refl
 
-stays_open_row : (r : Reading) (row : Row) (said : Result Row WorldKind) → r.open_row ≡ Some row → Sound r → Adds r.facts (r.rows ++ row ∷ []) row said → Stays (with_open_row r said)
+stays_open_row : (r : Reading) (row : Row) (said : Result Row WorldFaultKind) → r.open_row ≡ Some row → Sound r → Adds r.facts (r.rows ++ row ∷ []) row said → Stays (with_open_row r said)
 stays_open_row r row (Err kind) is h adds = tt
 stays_open_row r row (Ok new) is h adds = record {
   world = world_with_last (world_of r) r.rows row new (ap (λ (o : Option Row). r.rows ++ option_to_list o) is) h.world adds.0 adds.1 (λ old. adds.2);
@@ -126,7 +126,7 @@ open_valid r row is h =
 
 -- what may be added to any action
 pub stays_open :
-    (r : Reading) (add : Row → Result Row WorldKind) → Sound r →
+    (r : Reading) (add : Row → Result Row WorldFaultKind) → Sound r →
     ((row : Row) → IsValidRow r.facts (r.rows ++ row ∷ []) row → Adds r.facts (r.rows ++ row ∷ []) row (add row)) →
     Stays (with_open r.open_row r add)
 stays_open r add h adds = by r.open_row refl
@@ -137,7 +137,7 @@ stays_open r add h adds = by r.open_row refl
 
 -- what may be added to one that is modelled
 pub stays_modelled :
-    (r : Reading) (add : Row → Result Row WorldKind) → Sound r →
+    (r : Reading) (add : Row → Result Row WorldFaultKind) → Sound r →
     ((row : Row) → is_modelled row.sort ≡ true → IsValidRow r.facts (r.rows ++ row ∷ []) row → Adds r.facts (r.rows ++ row ∷ []) row (add row)) →
     Stays (with_open (where_modelled r.open_row) r add)
 stays_modelled r add h adds = by r.open_row refl
@@ -160,7 +160,7 @@ modelled_is (Some row) h = by (is_modelled row.sort) h
     by false k = absurd (cc)
 
 pub stays_placed_open :
-    (r : Reading) (add : Row → Result Row WorldKind) → is_some (where_modelled r.open_row) ≡ true → Sound r →
+    (r : Reading) (add : Row → Result Row WorldFaultKind) → is_some (where_modelled r.open_row) ≡ true → Sound r →
     ((row : Row) → is_modelled row.sort ≡ true → IsValidRow r.facts (r.rows ++ row ∷ []) row → Adds r.facts (r.rows ++ row ∷ []) row (add row)) →
     Stays (with_open r.open_row r add)
 stays_placed_open r add there h adds = subst (λ (o : Option Row). Stays (with_open o r add)) (modelled_is r.open_row there) (stays_modelled r add h adds)

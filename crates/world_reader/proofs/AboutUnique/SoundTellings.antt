@@ -10,7 +10,7 @@ use Rattle.spec_script.specs.declared.value.Value.TheVariants.{Int, Text}
 use Rattle.spec_world.specs.declared.world.ToldOut.{ToldOut}
 use Rattle.spec_world.specs.Worlds.{AreNames, IsValidTelling, IsValidValue, is_name, ports_told}
 use Rattle.spec_world_file.specs.WorldFile.{Reading, ReadsOuts, is_long, is_small, repeats, telling_of, with_telling, without_gap}
-use Rattle.spec_world_file.specs.declared.world_fault.WorldKind.{WorldKind}
+use Rattle.spec_world_file.specs.declared.world_fault.WorldFaultKind.{WorldFaultKind}
 use Rattle.world_reader.proofs.AboutUnique.Sound.{Stays, at_most, distinct_ports, not_both, nothing_distinct, stays_else}
 
 named_outs : (outs : List ToldOut) (text : List ℕ) → ReadsOuts outs text → All (λ n. IsTrue (is_name n)) (ports_told outs)
@@ -35,7 +35,7 @@ telling_valid false outs names values = tt
 
 -- a telling without a fault is valid
 pub stays_telling :
-    (outs : List ToldOut) (text : List ℕ) (succeeds : Bool) (said : Result Reading WorldKind) → ReadsOuts outs text → list_all (λ out. is_small out.value) outs ≡ true →
+    (outs : List ToldOut) (text : List ℕ) (succeeds : Bool) (said : Result Reading WorldFaultKind) → ReadsOuts outs text → list_all (λ out. is_small out.value) outs ≡ true →
     (IsValidTelling (telling_of succeeds outs) → Stays said) → Stays (with_telling outs said)
 stays_telling outs text succeeds said reads small h =
     stays_else (repeats [] (ports_told outs)) _ _ (λ differ.

@@ -16,7 +16,7 @@ use Rattle.spec_world.specs.declared.world.What.TheVariants.{Tick, Halt, Change,
 use Rattle.spec_world.specs.declared.world.ToldOut.{ToldOut}
 use Rattle.spec_world.specs.declared.world.World.{World}
 use Rattle.spec_world_file.specs.declared.world_fault.WorldFault.{WorldFault}
-use Rattle.spec_world_file.specs.declared.world_fault.WorldKind.{WorldKind}
+use Rattle.spec_world_file.specs.declared.world_fault.WorldFaultKind.{WorldFaultKind}
 use Rattle.spec_world.specs.Worlds.{IsComparisonIn, IsValidEvent, IsValidRow, IsValidWorld}
 use Rattle.spec_tree.specs.Numbers.{in_range, is_int}
 use Rattle.spec_world_file.specs.WorldFile.{Line, FactLine, IsLine, WhenLine, TimedLine, TimedByLine, ReplayLine, GateLine, SensedLine, ToldLine, FailsLine, NeedsLine, SetsLine, OutLine, NameLine, GoalLine, RunnersLine, AtLine, TickLine, HaltLine, SetLine, TellLine, EveryLine, AfterForm, AfterLine, AfterLines, AfterText, GoesOn, LinesMake, LinesRead, Reading, ReadsNumeric, ReadsOuts, ReadsTold, ReadsWorld, SaysOf, SaysOfOuts, by_expr, by_outs, closed, comparison_number, content, fact_number, is_group, is_ms, is_ignored, is_runner, is_small, is_uid, line_in, lines_in, no_header, nothing_read, plain_row, row_with_effect, row_with_fails, row_with_name, row_with_need, row_with_out, runners_of, telling_of, where_modelled, with_action, with_event, with_row, without_return, world_after, world_of, is_step, runner_in, what_in}
@@ -27,21 +27,21 @@ use Rattle.world_reader.proofs.AboutUnique.SoundRows.{adds_effect, adds_fails, a
 use Rattle.world_reader.proofs.AboutUnique.SoundRounds.{parts_valid, stays_rounds}
 use Rattle.world_reader.proofs.AboutUnique.SoundTellings.{stays_telling}
 
-stays_says : (text : List ℕ) (rule : Expr → Result Reading WorldKind) (said : Result Reading WorldKind) → SaysOf text rule said → ((e : Expr) → ReadsNumeric text (Some e) → Stays (rule e)) → Stays said
+stays_says : (text : List ℕ) (rule : Expr → Result Reading WorldFaultKind) (said : Result Reading WorldFaultKind) → SaysOf text rule said → ((e : Expr) → ReadsNumeric text (Some e) → Stays (rule e)) → Stays said
 stays_says text rule said k h = subst Stays (sym k.is) (by k.expr k.reads)
   where
     by : (o : Option Expr) → ReadsNumeric text o → Stays (by_expr o rule)
     by None reads = tt
     by (Some e) reads = h e reads
 
-stays_outs : (text : List ℕ) (rule : List ToldOut → Result Reading WorldKind) (said : Result Reading WorldKind) → SaysOfOuts text rule said → ((outs : List ToldOut) → ReadsOuts outs text → Stays (rule outs)) → Stays said
+stays_outs : (text : List ℕ) (rule : List ToldOut → Result Reading WorldFaultKind) (said : Result Reading WorldFaultKind) → SaysOfOuts text rule said → ((outs : List ToldOut) → ReadsOuts outs text → Stays (rule outs)) → Stays said
 stays_outs text rule said k h = subst Stays (sym k.is) (by k.outs k.reads)
   where
     by : (o : Option (List ToldOut)) → ReadsTold text o → Stays (by_outs o rule)
     by None reads = tt
     by (Some outs) reads = h outs reads
 
-stays_line : (r : Reading) (line : Line) (said : Result Reading WorldKind) → WellFormed line → Sound r → AfterLine r line said → Stays said
+stays_line : (r : Reading) (line : Line) (said : Result Reading WorldFaultKind) → WellFormed line → Sound r → AfterLine r line said → Stays said
 stays_line r (FactLine name opening) said w h k =
     subst Stays (sym k) (stays_ranged (is_int opening) _ (λ int. stays_fact (closed r) name opening (sound_closed r h) w int))
 stays_line r (IsLine id fact op value) said w h k =
@@ -111,11 +111,11 @@ stays_line r (EveryLine ms last parts) said w h k =
     let end = both (is_step ms) (is_ms last) numbers.0 in
     stays_rounds (closed r) (nat_abs last) (nat_abs ms) (map what_in parts) (sound_closed r h) (ms_most last end.1) (parts_valid r.facts (runners_of r) parts numbers.1)))
 
-stays_form : (r : Reading) (o : Option Line) (said : Result Reading WorldKind) → AreWell WellFormed o → Sound r → AfterForm r o said → Stays said
+stays_form : (r : Reading) (o : Option Line) (said : Result Reading WorldFaultKind) → AreWell WellFormed o → Sound r → AfterForm r o said → Stays said
 stays_form r None said w h k = subst Stays (sym k) tt
 stays_form r (Some line) said w h k = stays_line r line said w h k
 
-stays_text : (r : Reading) (text : List ℕ) (said : Result Reading WorldKind) → Sound r → AfterText r text said → Stays said
+stays_text : (r : Reading) (text : List ℕ) (said : Result Reading WorldFaultKind) → Sound r → AfterText r text said → Stays said
 stays_text r text said h = by (is_ignored (content text))
   where
     by : (b : Bool) → MatchBool b (said ≡ Ok r) (AfterForm r (line_in (content text)) said) → Stays said
@@ -132,7 +132,7 @@ stays_lines n [] r said h k = subst StaysAfter (sym k) h
 stays_lines n (text ∷ texts) r said h k = by (stays_lines (n + 1) texts) k.0 (stays_text r text k.0 h k.1) k.2
   where
     by : ((left : Reading) (said : Result Reading WorldFault) → Sound left → AfterLines (n + 1) texts left said → StaysAfter said) →
-        (next : Result Reading WorldKind) → Stays next → GoesOn n (λ left. AfterLines (n + 1) texts left said) said next → StaysAfter said
+        (next : Result Reading WorldFaultKind) → Stays next → GoesOn n (λ left. AfterLines (n + 1) texts left said) said next → StaysAfter said
     by rest (Ok left) s g = rest left said s g
     by rest (Err kind) s g = subst StaysAfter (sym g) tt
 

@@ -8,19 +8,19 @@ use Rattle.cli_serve.proofs.Requests.{event_reads, fault_reads, moment_reads, no
 use Rattle.cli_serve.specs.Asking.{Asks, is_request_word}
 use Rattle.spec_serve.specs.declared.request.Request.{Request}
 use Rattle.spec_serve.specs.Requests.{RequestReads}
-use Rattle.spec_world_file.specs.declared.world_fault.WorldKind.{WorldKind}
+use Rattle.spec_world_file.specs.declared.world_fault.WorldFaultKind.{WorldFaultKind}
 use Rattle.spec_world_file.specs.WorldFile.{AfterText, Reading, content, front_word}
 use Rattle.world_draft.specs.Readings.{Leaves}
 use Rattle.cli_serve.proofs.request.read_request.Goals as goal
 
-abbrev unread : Stop WorldKind → Result (Unit {0}) (Stop WorldKind)
+abbrev unread : Stop WorldFaultKind → Result (Unit {0}) (Stop WorldFaultKind)
 unread e = Err e
 
-abbrev unasked : Stop WorldKind → Result Request (Stop WorldKind)
+abbrev unasked : Stop WorldFaultKind → Result Request (Stop WorldFaultKind)
 unasked e = Err e
 
 -- a line that is not read asks nothing
-stopped : (r left : Reading) (text : List ℕ) (e : Stop WorldKind) → bytes_eq (content text) (codes "finish") ≡ false → is_request_word (front_word (content text)) ≡ true →
+stopped : (r left : Reading) (text : List ℕ) (e : Stop WorldFaultKind) → bytes_eq (content text) (codes "finish") ≡ false → is_request_word (front_word (content text)) ≡ true →
     Leaves (unread e) left (AfterText r text) → Asks (unasked e) left (RequestReads r text)
 stopped r left text stop.NoMemory unfinished is_asked leaves = tt
 stopped r left text (stop.Fault kind) unfinished is_asked leaves = fault_reads r text kind unfinished is_asked leaves

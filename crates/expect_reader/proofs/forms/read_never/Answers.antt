@@ -2,7 +2,7 @@ use Rattle.std.proofs.Common.{Bool, List, Err, Ok, Result}
 use Rattle.std.proofs.lemmas.Result.{err_from_is_err_and}
 use Rattle.std.specs.Prelude.{codes}
 use Rattle.base_texts.specs.Results.{◌>>=◌}
-use Rattle.spec_expect.specs.declared.expect_fault.ExpectKind.{ExpectKind}
+use Rattle.spec_expect.specs.declared.expect_fault.ExpectFaultKind.{ExpectFaultKind}
 use Rattle.spec_expect.specs.declared.expectation.Expectation.{Expectation}
 use Rattle.spec_expect.specs.declared.expectation.Expectation.TheVariants.{NeverWith}
 use Rattle.spec_expect.specs.ExpectFile.{NeverWithLine, leaves_in, then_pick}
@@ -25,7 +25,7 @@ returns-in_err-first c =
     let pick = c.args.pick.now in
     let text = c.args.text.now in
     let other = c.in_ok-other.other in
-    let rest : List Bool → Result Expectation ExpectKind = λ a. leaves_in places other >>= λ b. Ok (NeverWith a b) in
+    let rest : List Bool → Result Expectation ExpectFaultKind = λ a. leaves_in places other >>= λ b. Ok (NeverWith a b) in
     rw (p.1, p.2) (of_form (subject_seen c.args.subject.now) (then_pick (codes "with") NeverWithLine (pick, text)) (NeverWithLine pick other) (Err c.in_err-first.field-0.0)
     (then_some (codes "with") NeverWithLine pick other text c.in_ok-other.ensures.last)
     (given_so (Err c.in_err-first.field-0.0) (leaves_in places pick >>= rest) (err_gives (leaves_in places pick) rest c.in_err-first.field-0.0 c.in_err-first.ensures)))
@@ -37,8 +37,8 @@ returns-in_err-second c =
     let pick = c.args.pick.now in
     let text = c.args.text.now in
     let other = c.in_ok-other.other in
-    let last : List Bool → List Bool → Result Expectation ExpectKind = λ a b. Ok (NeverWith a b) in
-    let rest : List Bool → Result Expectation ExpectKind = λ a. leaves_in places other >>= last a in
+    let last : List Bool → List Bool → Result Expectation ExpectFaultKind = λ a b. Ok (NeverWith a b) in
+    let rest : List Bool → Result Expectation ExpectFaultKind = λ a. leaves_in places other >>= last a in
     rw (p.1, p.2) (of_form (subject_seen c.args.subject.now) (then_pick (codes "with") NeverWithLine (pick, text)) (NeverWithLine pick other) (Err c.in_err-second.field-0.0)
     (then_some (codes "with") NeverWithLine pick other text c.in_ok-other.ensures.last)
     (given_so (Err c.in_err-second.field-0.0) (leaves_in places pick >>= rest)
@@ -51,7 +51,7 @@ returns c =
     let pick = c.args.pick.now in
     let text = c.args.text.now in
     let other = c.in_ok-other.other in
-    let rest : List Bool → Result Expectation ExpectKind = λ a. leaves_in places other >>= λ b. Ok (NeverWith a b) in
+    let rest : List Bool → Result Expectation ExpectFaultKind = λ a. leaves_in places other >>= λ b. Ok (NeverWith a b) in
     let made : Expectation = NeverWith c.in_ok-first.first c.in_ok-second.second in
     of_form (subject_seen c.args.subject.now) (then_pick (codes "with") NeverWithLine (pick, text)) (NeverWithLine pick other) (Ok made)
     (then_some (codes "with") NeverWithLine pick other text c.in_ok-other.ensures.last)

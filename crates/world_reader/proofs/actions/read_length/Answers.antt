@@ -1,7 +1,7 @@
 use Rattle.std.proofs.Common.{Some, Err, None, refl, sym, ap, subst, ◌∙◌}
 use Rattle.std.specs.Prelude.{option_map}
 use Rattle.base_texts.specs.declared.stop.Stop.TheVariants as stop
-use Rattle.spec_world_file.specs.declared.world_fault.WorldKind.TheVariants.{BadLine}
+use Rattle.spec_world_file.specs.declared.world_fault.WorldFaultKind.TheVariants.{BadLine}
 use Rattle.spec_world_file.specs.WorldFile.{ReadsNumeric, TimedByLine, with_action}
 use Rattle.spec_world.specs.declared.world.RowSort.TheVariants.{TimedBy}
 use Rattle.world_draft.specs.Drafts.{row_of}

@@ -21,7 +21,7 @@ use base_tables::int_fits;
 use itoa::Buffer;
 use run_arena::{Node, Source};
 use spec_run::{
-    Answer, Cause, Counts, Memo, NodeFault, Pace, PortId, Recoveries, Rotation, Since, Status,
+    Answer, Cause, Counts, Memo, NodeFault, NumericPort, Pace, Recoveries, Rotation, Since, Status,
     Turns,
 };
 use spec_script::Value;
@@ -58,11 +58,15 @@ fn threshold(children: u32, count: Option<i64>) -> Option<u32>
 
 /// The first memo of a Parallel of this many children with these counts. The error is the port
 /// whose count is out of range.
-fn parallel_start(children: u32, success: Option<i64>, failure: Option<i64>) -> Result<Memo, PortId>
+fn parallel_start(
+    children: u32,
+    success: Option<i64>,
+    failure: Option<i64>,
+) -> Result<Memo, NumericPort>
     ensures { result ≡ parallel_start (threshold children success) (is_negative success) (threshold children failure) }
 {
-    let need = threshold(children, success).ok_or(PortId::SuccessCount)?;
-    let most = threshold(children, failure).ok_or(PortId::FailureCount)?;
+    let need = threshold(children, success).ok_or(NumericPort::SuccessCount)?;
+    let most = threshold(children, failure).ok_or(NumericPort::FailureCount)?;
     Ok(Memo::Counts(Counts {
         need,
         most,
@@ -75,7 +79,7 @@ fn parallel_start(children: u32, success: Option<i64>, failure: Option<i64>) -> 
 
 /// The first memo of a Retry or Repeat with this limit. The error is its port, where the limit is
 /// not in range.
-fn turns_start(port: PortId, limit: Option<i64>) -> Result<Memo, PortId>
+fn turns_start(port: NumericPort, limit: Option<i64>) -> Result<Memo, NumericPort>
     ensures { result ≡ turns_start port (within TurnRange limit) }
 {
     match limit {
@@ -88,7 +92,7 @@ fn turns_start(port: PortId, limit: Option<i64>) -> Result<Memo, PortId>
 
 /// The first memo of a Timeout or Delay of this length, from `now` on, both in milliseconds. The
 /// error is its port, where the length is not in range.
-fn since_start(port: PortId, now: u64, length: Option<i64>) -> Result<Memo, PortId>
+fn since_start(port: NumericPort, now: u64, length: Option<i64>) -> Result<Memo, NumericPort>
     ensures { result ≡ since_start port now (within Duration length) }
 {
     match length {
@@ -122,7 +126,11 @@ fn rate_at<P: Past>(node: &Node, place: usize, board: &Recorded<P>) -> Option<u3
 /// those of other kinds that read numbers, so that room for what they make is cleared only there. The
 /// error is the port whose count is out of range, and then the memo stays.
 #[inline(never)]
-fn start_parallel<P: Past>(node: &Node, memo: &mut Memo, board: &Recorded<P>) -> Result<(), PortId>
+fn start_parallel<P: Past>(
+    node: &Node,
+    memo: &mut Memo,
+    board: &Recorded<P>,
+) -> Result<(), NumericPort>
     requires ports { HasPorts (length board.now) node.now }
     requires there { 1 < length node.now.ports }
     ensures starts { let success = source_number board.now (port_at node.now 0) in
@@ -142,7 +150,7 @@ fn start_parallel<P: Past>(node: &Node, memo: &mut Memo, board: &Recorded<P>) ->
 /// Makes a memo the first one of a Retry or Repeat with this limit. The error is its port, where the
 /// limit is not in range, and then the memo stays.
 #[inline(never)]
-fn start_turns(port: PortId, limit: Option<i64>, memo: &mut Memo) -> Result<(), PortId>
+fn start_turns(port: NumericPort, limit: Option<i64>, memo: &mut Memo) -> Result<(), NumericPort>
     ensures starts { with_memo result memo.new ≡ turns_start port (within TurnRange limit) }
     ensures err { OnErr result (memo.new ≡ memo.old) }
 {
@@ -153,7 +161,12 @@ fn start_turns(port: PortId, limit: Option<i64>, memo: &mut Memo) -> Result<(), 
 /// Makes a memo the first one of a Timeout or Delay of this length, from `now` on, both in
 /// milliseconds. The error is its port, where the length is not in range, and then the memo stays.
 #[inline(never)]
-fn start_since(port: PortId, now: u64, length: Option<i64>, memo: &mut Memo) -> Result<(), PortId>
+fn start_since(
+    port: NumericPort,
+    now: u64,
+    length: Option<i64>,
+    memo: &mut Memo,
+) -> Result<(), NumericPort>
     ensures starts { with_memo result memo.new ≡ since_start port now (within Duration length) }
     ensures err { OnErr result (memo.new ≡ memo.old) }
 {
@@ -163,7 +176,7 @@ fn start_since(port: PortId, now: u64, length: Option<i64>, memo: &mut Memo) -> 
 
 /// The first memo of a RecoveryNode with this limit of recoveries. The error is its port, where the limit is not in
 /// range.
-fn recoveries_start(limit: Option<i64>) -> Result<Memo, PortId>
+fn recoveries_start(limit: Option<i64>) -> Result<Memo, NumericPort>
     ensures { result ≡ recoveries_start (within RecoveryRange limit) }
 {
     match limit {
@@ -172,14 +185,14 @@ fn recoveries_start(limit: Option<i64>) -> Result<Memo, PortId>
             limit: limit as u32,
             recovers: false,
         })),
-        _ => Err(PortId::NumberOfRetries),
+        _ => Err(NumericPort::NumberOfRetries),
     }
 }
 
 /// Makes a memo the first one of a RecoveryNode with this limit. The error is its port, where the limit is not in
 /// range, and then the memo stays.
 #[inline(never)]
-fn start_recoveries(limit: Option<i64>, memo: &mut Memo) -> Result<(), PortId>
+fn start_recoveries(limit: Option<i64>, memo: &mut Memo) -> Result<(), NumericPort>
     ensures starts { with_memo result memo.new ≡ recoveries_start (within RecoveryRange limit) }
     ensures err { OnErr result (memo.new ≡ memo.old) }
 {
@@ -218,14 +231,14 @@ pub fn remembers(status: Status, memo: Memo) -> Memo
 /// it remembers, else one of this rate in thousandths of a hertz. The error is the port of the rate, where it has
 /// none, and then the memo stays.
 #[inline(never)]
-fn start_pace(rate: Option<u32>, old: Status, memo: &mut Memo, now: u64) -> Result<(), PortId>
+fn start_pace(rate: Option<u32>, old: Status, memo: &mut Memo, now: u64) -> Result<(), NumericPort>
     ensures starts { with_memo result memo.new ≡ next_pace (remembers old memo.old) (pace_start now rate) }
     ensures err { OnErr result (memo.new ≡ memo.old) }
 {
     if let Memo::Pace(_) = remembers(old, *memo) {
         return Ok(());
     }
-    let rate = rate.ok_or(PortId::Hz)?;
+    let rate = rate.ok_or(NumericPort::Hz)?;
     *memo = Memo::Pace(Pace {
         first: now,
         rate,
@@ -243,7 +256,7 @@ fn start_of<P: Past>(
     memo: &mut Memo,
     board: &Recorded<P>,
     now: u64,
-) -> Result<(), PortId>
+) -> Result<(), NumericPort>
     requires { HasPorts (length board.now) node.now }
     ensures starts { (term : Term-F Meaning) (view : View) (whole uid : ℕ) (s : State) → IsNode view (written term) whole node.now →
         let memory = remembers old memo.old in
@@ -266,10 +279,10 @@ fn start_of<P: Past>(
         }
         Kind::Parallel => start_parallel(node, memo, board)?,
         Kind::Switch(_) | Kind::IfThenElse => *memo = Memo::Chosen(None),
-        Kind::Retry => start_turns(PortId::NumAttempts, number_at(node, 0, board), memo)?,
-        Kind::Repeat => start_turns(PortId::NumCycles, number_at(node, 0, board), memo)?,
-        Kind::Timeout => start_since(PortId::Msec, now, number_at(node, 0, board), memo)?,
-        Kind::Delay => start_since(PortId::DelayMsec, now, number_at(node, 0, board), memo)?,
+        Kind::Retry => start_turns(NumericPort::NumAttempts, number_at(node, 0, board), memo)?,
+        Kind::Repeat => start_turns(NumericPort::NumCycles, number_at(node, 0, board), memo)?,
+        Kind::Timeout => start_since(NumericPort::Msec, now, number_at(node, 0, board), memo)?,
+        Kind::Delay => start_since(NumericPort::DelayMsec, now, number_at(node, 0, board), memo)?,
         Kind::RecoveryNode => start_recoveries(number_at(node, 0, board), memo)?,
         Kind::RoundRobin => start_rotation(memo),
         Kind::RateController => start_pace(rate_at(node, 0, board), old, memo, now)?,
@@ -282,7 +295,7 @@ fn start_of<P: Past>(
 /// What was read from the ports of the node with this uid. The error is the node's fault: the port
 /// that has no number of its range.
 #[inline(always)]
-fn or_bad_port<A>(uid: u32, read: Result<A, PortId>) -> Result<A, NodeFault>
+fn or_bad_port<A>(uid: u32, read: Result<A, NumericPort>) -> Result<A, NodeFault>
     ensures { result ≡ or_bad_port uid read }
 {
     match read {
@@ -327,13 +340,13 @@ fn mark_of(memo: Memo) -> Option<Answer>
 
 /// What is picked for a RunOnce with a mark, by its port `then_skip`: 1 where it skips, else 0. The
 /// error is that port, where it has no truth.
-fn skip_picked(skip: Option<bool>) -> Result<u32, PortId>
+fn skip_picked(skip: Option<bool>) -> Result<u32, NumericPort>
     ensures { result ≡ skip_picked skip }
 {
     match skip {
         Some(true) => Ok(1),
         Some(false) => Ok(0),
-        None => Err(PortId::ThenSkip),
+        None => Err(NumericPort::ThenSkip),
     }
 }
 
@@ -357,7 +370,7 @@ fn selected<P: Past>(ports: &[Source], board: &Recorded<P>) -> u32
 
 /// What is picked for a visit of a node. The error is its port that has no truth.
 #[inline(always)]
-fn pick<P: Past>(node: &Node, memo: Memo, board: &Recorded<P>) -> Result<u32, PortId>
+fn pick<P: Past>(node: &Node, memo: Memo, board: &Recorded<P>) -> Result<u32, NumericPort>
     requires { HasPorts (length board.now) node.now }
     ensures { (term : Term-F Meaning) (view : View) (whole uid : ℕ) (s : State) → IsNode view (written term) whole node.now →
         result ≡ picked term.kind (site_of term view uid) memo (record s { board = board.now }) }

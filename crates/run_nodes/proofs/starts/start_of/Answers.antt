@@ -2,7 +2,7 @@ use Rattle.std.proofs.Common.{ℕ, Option, Ok, Err, ap, ◌∙◌}
 use Rattle.spec_run.specs.Ports.{next_pace, pace_start}
 use Rattle.spec_run.specs.Visit.{remembers}
 use Rattle.run_nodes.proofs.PortValues.{no_memo, pace_starts, parallel_starts}
-use Rattle.run_nodes.proofs.ports.start_of.Goals as goal
+use Rattle.run_nodes.proofs.starts.start_of.Goals as goal
 
 pub returns-in_err-start_parallel-in-Parallel-clause-starts : goal.returns-in_err-start_parallel-in-Parallel-clause-starts
 returns-in_err-start_parallel-in-Parallel-clause-starts g c = λ term view whole uid s k.

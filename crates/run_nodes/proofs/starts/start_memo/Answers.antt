@@ -3,7 +3,7 @@ use Rattle.spec_run.specs.declared.fault.NodeFault.{NodeFault}
 use Rattle.spec_run.specs.Visit.{or_bad_port}
 use Rattle.run_nodes.specs.Given.{with_memo}
 use Rattle.run_nodes.proofs.PortValues.{bad_port_after}
-use Rattle.run_nodes.proofs.ports.start_memo.Goals as goal
+use Rattle.run_nodes.proofs.starts.start_memo.Goals as goal
 
 pub returns-clause-starts : goal.returns-clause-starts
 returns-clause-starts g c = λ term view whole s k.
