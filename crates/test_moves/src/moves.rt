@@ -1115,17 +1115,24 @@ fn decorator_text(
     Ok(text)
 }
 
-/// Compares the visits of a decorator that begin with this memo at the time `now` in milliseconds,
-/// one for each line.
+/// A decorator before a visit.
+#[derive(Clone, Copy)]
+struct Decorator {
+    kind: Kind,
+    memo: Memo,
+    /// The child that its port picks.
+    picked: u32,
+}
+
+/// Compares the visits of a decorator at the time `now` in milliseconds, one for each line.
 fn decorators(
     rt: &impl Abort,
     alloc: Global,
-    kind: Kind,
-    memo: Memo,
+    decorator: Decorator,
     now: u64,
-    picked: u32,
     lines: &str,
 ) -> Result<(), AllocError> {
+    let Decorator { kind, memo, picked } = decorator;
     for line in lines.lines() {
         let (_, answers, want) = row(line);
         assert!(rt; may_decorate(kind, memo, picked));
@@ -1191,7 +1198,8 @@ fn decorators_of_one_visit(rt: HostRuntime) -> Result<(), Fail> {
              1 K 0 All Skipped",
         ),
     ] {
-        decorators(&rt, alloc, kind, memo, now, picked, lines)?;
+        let decorator = Decorator { kind, memo, picked };
+        decorators(&rt, alloc, decorator, now, lines)?;
     }
     Ok(())
 }
@@ -1275,7 +1283,8 @@ fn retry_and_repeat(rt: HostRuntime) -> Result<(), Fail> {
              1 K 0 All Skipped",
         ),
     ] {
-        decorators(&rt, alloc, kind, memo, now, picked, lines)?;
+        let decorator = Decorator { kind, memo, picked };
+        decorators(&rt, alloc, decorator, now, lines)?;
     }
     Ok(())
 }
@@ -1322,7 +1331,8 @@ fn timeout_and_delay(rt: HostRuntime) -> Result<(), Fail> {
         ),
         (Kind::Delay, since(10, 0), 10, 0, "1 S 0 All Success"),
     ] {
-        decorators(&rt, alloc, kind, memo, now, picked, lines)?;
+        let decorator = Decorator { kind, memo, picked };
+        decorators(&rt, alloc, decorator, now, lines)?;
     }
     Ok(())
 }
@@ -1371,7 +1381,8 @@ fn run_once(rt: HostRuntime) -> Result<(), Fail> {
             "1 . Skipped mark Failure",
         ),
     ] {
-        decorators(&rt, alloc, kind, memo, now, picked, lines)?;
+        let decorator = Decorator { kind, memo, picked };
+        decorators(&rt, alloc, decorator, now, lines)?;
     }
     Ok(())
 }
@@ -1452,7 +1463,8 @@ fn rate_controller(rt: HostRuntime) -> Result<(), Fail> {
             "1 S 0 All Success 1000000 from 1000000000000000000",
         ),
     ] {
-        decorators(&rt, alloc, kind, memo, now, picked, lines)?;
+        let decorator = Decorator { kind, memo, picked };
+        decorators(&rt, alloc, decorator, now, lines)?;
     }
     Ok(())
 }
