@@ -319,7 +319,7 @@ fn statements(alloc: Global, stmts: &[Stmt], names: &Numbering) -> Result<Vec<St
         map (stmt_program slots) codes.items ≡ map (statement_of (λ name. slots (place_in names.now name))) stmts.now) }
     ensures reach { IfOk result (λ codes. All (λ s. stmt_code_reach s ≤ length names.now) codes.items) }
 {
-    let mut codes = Vec::new(alloc);
+    let mut codes = Vec::with_capacity(alloc, stmts.len())?;
     for stmt in stmts {
         codes.push(statement(alloc, stmt, names)?)?;
     }

@@ -43,7 +43,8 @@ pub fn parse_script(alloc: Global, text: &[u8]) -> Result<Script, Stop<ScriptFau
     match refusal(verdict, lexed.fault, text.len() as u32) {
         Some(fault) => Err(Stop::Fault(fault)),
         None => {
-            let stmts = statements(alloc, lexed.tokens.as_slice())?;
+            let mut stmts = statements(alloc, lexed.tokens.as_slice())?;
+            stmts.shrink_to_fit();
             let (names, named) = names_in(alloc, stmts.as_slice())?;
             let text = Txt::of(Vec::from_slice(alloc, text)?)?;
             let stmts = Statements::of(stmts, names, named);

@@ -18,4 +18,5 @@ mod slots;
 pub use board::{Board, board_of};
 pub use limit::is_within_slots;
 pub use recorded::{Past, Recorded};
+pub use scope::begins_private;
 pub use slots::{Slots, cells, no_slots, slot, slot_count, slots_of};

@@ -29,7 +29,7 @@ pub(crate) struct Mappings {
 }
 
 /// Whether a key begins with `_`.
-pub(crate) fn begins_private(key: &Name) -> bool
+pub fn begins_private(key: &Name) -> bool
     ensures { result ≡ is_private key.now }
 {
     key.list().first() == Some(&b'_')

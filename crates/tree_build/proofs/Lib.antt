@@ -17,7 +17,6 @@ pub mod SameAttributes
 pub mod ScriptAnswers
 pub mod ScriptFits
 pub mod Sizes
-pub mod TableOfNames
 pub mod Tables
 pub mod Walk
 pub mod WorkLimits

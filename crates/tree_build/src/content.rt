@@ -19,6 +19,7 @@ use spec_tree::{Guards, Kind, Ports};
 use spec_tree_file::{BuildFault, Content, Form, Head};
 use std::alloc::Global;
 use std::mem::replace;
+use tree_board::begins_private;
 use tree_manifest::{Manifest, attribute};
 
 /// By what the attributes of nodes are read.
@@ -59,14 +60,7 @@ fn guard_in(
     script_of(source, uid, attribute(attributes, name))
 }
 
-/// Whether the name begins with `_`, as those of all guards do.
-pub(crate) fn begins_private(name: &Name) -> bool
-    ensures { result ≡ is_private name.now }
-{
-    name.list().first() == Some(&b'_')
-}
-
-/// Whether the name of some attribute begins with `_`.
+/// Whether the name of some attribute begins with `_`, as those of all guards do.
 fn any_private(attributes: &[(Name, Name)]) -> bool
     ensures { result ≡ list_any (λ a. is_private a.0) attributes.now }
 {

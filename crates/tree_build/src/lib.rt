@@ -1,7 +1,6 @@
 //! From the element of a tree file to the tree.
 #![tactic(auto)]
 
-mod attributes;
 mod building;
 mod content;
 mod contents;

@@ -7,14 +7,13 @@ ghost use Rattle.spec_tree_file.specs.Attributes.{value_of};
 ghost use Rattle.tree_build.specs.Gives.{GivesList};
 ghost use Rattle.tree_build.specs.Seen.{rules_seen};
 
-use crate::attributes::Attributes;
 use crate::rules::{Rules, is_port, name_fits, range_of};
 use base_tables::PortRule;
 use base_texts::{Name, NoMemory, Stop};
 use spec_tree::{Port, PortValue, Ports, Range};
 use spec_tree_file::BuildFault;
 use std::alloc::Global;
-use tree_manifest::{KnownModel, attribute, value};
+use tree_manifest::{Attributes, KnownModel, attribute, value};
 
 /// The ports with one of this name and text. The fault `BadLiteral` where the text may not stand there.
 fn with_port(

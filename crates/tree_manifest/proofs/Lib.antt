@@ -1,2 +1,3 @@
 pub mod PortNames
 pub mod ShortTexts
+pub mod TableOfNames

@@ -1,6 +1,7 @@
 //! The node models of a tree file: which ports its leaves have, with their defaults, and what a text says at a port.
 #![tactic(auto)]
 
+mod attribute_names;
 mod attributes;
 mod defaults;
 mod known;
@@ -10,6 +11,7 @@ mod ports;
 mod read;
 mod values;
 
+pub use attribute_names::Attributes;
 pub use attributes::attribute;
 pub use known::KnownModel;
 pub use models::{Manifest, model};

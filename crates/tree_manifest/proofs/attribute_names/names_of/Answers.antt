@@ -2,9 +2,9 @@ use Rattle.std.proofs.Common.{◌≡◌, ℕ, List, Bor, true, cond, length, tak
 use Rattle.std.proofs.Math.Seq.{take-length}
 use Rattle.std.specs.List.{list_any}
 use Rattle.std.specs.Str.{bytes_eq}
-use Rattle.tree_build.specs.Named.{HaveNames}
-use Rattle.tree_build.proofs.TableOfNames.{name_more}
-use Rattle.tree_build.proofs.attributes.names_of.Goals as goal
+use Rattle.tree_manifest.specs.Named.{HaveNames}
+use Rattle.tree_manifest.proofs.TableOfNames.{name_more}
+use Rattle.tree_manifest.proofs.attribute_names.names_of.Goals as goal
 
 pub loop-name-init : goal.loop-name-init
 loop-name-init c = λ q. ap (list_any (λ (k : Bor (List ℕ)). bytes_eq q k.now)) c.in_ok-names.ensures.empty

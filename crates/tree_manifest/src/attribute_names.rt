@@ -1,12 +1,12 @@
 ghost use Rattle.std.specs.Prelude.{◌≡◌, IfOk, is_some};
 ghost use Rattle.spec_tree_file.specs.Attributes.{value_of};
-ghost use Rattle.tree_build.specs.Named.{HaveNames};
+ghost use Rattle.tree_manifest.specs.Named.{HaveNames};
 
+use crate::attributes::attribute;
 use base_texts::{Name, NoMemory};
 use indexmap::IndexSet;
 use std::alloc::Global;
 use std::marker::Model;
-use tree_manifest::attribute;
 
 /// Among so many attributes it costs least to compare each name.
 const FEW: usize = 8;
@@ -22,7 +22,7 @@ pub struct Attributes<'a> {
 impl<'a> Model for Attributes<'a> {
     ghost use Rattle.std.specs.Prelude.{◌<◌, length};
     ghost use Rattle.spec_tree_file.specs.Attributes.{Attributes as Seen};
-    ghost use Rattle.tree_build.specs.Named.{HaveNames};
+    ghost use Rattle.tree_manifest.specs.Named.{HaveNames};
 
     ghost Value = { Seen };
 
