@@ -180,7 +180,8 @@ impl Session {
     }
 
     /// Lends the value of the entry that a runner's blackboard has for a key in a scope: the uid of a SubTree node, or
-    /// any other number for the main tree. None where there is none.
+    /// any other number for the main tree. None where there is none, and for a key that no node in the scope names and
+    /// to which no literal is given.
     pub fn entry(&self, runner: u8, scope: u32, key: &Name) -> Option<&Value>
         ensures { option_copied result ≡ entry_of self.now runner scope key.now }
     {

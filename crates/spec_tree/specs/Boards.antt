@@ -126,16 +126,26 @@ abbrev pub value_keys : PortValue → List (List ℕ)
 value_keys (Key key) = key ∷ []
 value_keys (Lit value) = []
 
+-- the name of a port that has a literal
+abbrev pub literal_name : PortValue → List ℕ → List (List ℕ)
+literal_name (Lit value) name = name ∷ []
+literal_name (Key key) name = []
+
+-- the names of those of some ports that have literals
+abbrev pub literal_names : List Port → List (List ℕ)
+literal_names ports = flat_map (λ (port : Port). literal_name port.value port.name) ports
+
 -- the keys that a node names in the scope in which it stands: in its scripts, and by its ports
 abbrev pub keys_named : Standing → List (List ℕ)
 keys_named node =
     flat_map (λ (script : Script). flat_map stmt_names script.stmts) node.scripts ++ flat_map (λ (port : Port). value_keys port.value) node.ports
 
--- what a node names; a SubTree node names its ports in the scope that it makes as well
+-- what a node names; a SubTree node names those of its ports that have literals in the scope that it makes as well. The
+-- cell of any other port is that of the key that it names where the node stands
 abbrev pub namings_at : Standing → List Naming
 namings_at node =
     map (named_in node.number node.scope) (keys_named node)
-    ++ (if makes_scope node.kind then map (λ (port : Port). named_in node.uid (scope_below node.uid node.ports node.autoremap node.scope) port.name) node.ports else [])
+    ++ (if makes_scope node.kind then map (named_in node.uid (scope_below node.uid node.ports node.autoremap node.scope)) (literal_names node.ports) else [])
 
 -- every pair of a scope's number and a key that a tree names
 abbrev pub namings : Tree → List Naming

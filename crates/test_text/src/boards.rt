@@ -13,7 +13,7 @@ use tree_board::{Board, Past, Recorded, Slots, board_of, cells, slot, slot_count
 /// A Sequence of a script over the keys `b`, `c` and `_p`, and of a SubTree that is given `b` twice, a
 /// literal, and all other keys.
 const MIXED: &str =
-    r#"<Sequence><Script code="b := 5; c := 1; _p := 9"/><SubTree ID="S" a="{b}" d="{b}" lit="7" _autoremap="true"/></Sequence></BehaviorTree><BehaviorTree ID="S"><Script code="a := a + 1; c := 2; _p := 3; m := d"/>"#;
+    r#"<Sequence><Script code="b := 5; c := 1; _p := 9"/><SubTree ID="S" a="{b}" d="{b}" u="{b}" lit="7" _autoremap="true"/></Sequence></BehaviorTree><BehaviorTree ID="S"><Script code="a := a + 1; c := 2; _p := 3; m := d"/>"#;
 
 /// The cells of slots, each with its scope before its key.
 fn cells_of(alloc: Global, slots: &Slots) -> Result<String, NoMemory> {
@@ -130,6 +130,8 @@ fn names_have_the_slots_of_their_cells(rt: HostRuntime) -> Result<(), NoMemory> 
             ("0 m", "None"),
             ("0 a", "None"),
             ("0 lit", "None"),
+            // a port that nothing in the scope names
+            ("3 u", "None"),
             // scopes that the tree does not have
             ("2 b", "None"),
             ("0 ", "None"),

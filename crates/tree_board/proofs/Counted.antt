@@ -19,14 +19,12 @@ use Rattle.spec_tree.specs.declared.cell.Cell.{Cell}
 use Rattle.spec_tree.specs.declared.cell.Naming.{Naming}
 use Rattle.spec_tree.specs.declared.term.Kind.TheVariants.{SubTree}
 use Rattle.spec_tree.specs.declared.term.Port.{Port}
-use Rattle.spec_tree.specs.declared.term.PortValue.{PortValue}
-use Rattle.spec_tree.specs.declared.term.PortValue.TheVariants.{Lit, Key}
 use Rattle.spec_tree.specs.declared.term.Term.{Term, out-Term}
-use Rattle.spec_tree.specs.Boards.{Scope, cell_by_port, main_scope, named_in, scripts_of, cell_order, in_order, placed, placed_by, port_of, scope_below, value_keys}
+use Rattle.spec_tree.specs.Boards.{Scope, literal_names, main_scope, named_in, cell_order, in_order, placed, placed_by, scope_below}
 use Rattle.tree_board.specs.declared.counting.Inner.{Inner}
 use Rattle.tree_board.specs.declared.counting.TooMany.{TooMany}
-use Rattle.tree_board.specs.Countings.{AreAmong, Found, cells_left, cells_named, found_so_far, literal_name, literal_names}
-use Rattle.tree_board.specs.Namings.{HaveSame, keys_of_node, namings_of_term, namings_of_terms, script_names}
+use Rattle.tree_board.specs.Countings.{AreAmong, Found, cells_left, cells_named, found_so_far}
+use Rattle.tree_board.specs.Namings.{HaveSame, keys_of_node, namings_of_term, namings_of_terms}
 use Rattle.tree_board.proofs.CellOrder.{cells_total, in_order_any, in_order_is, placed_any}
 use Rattle.tree_board.proofs.Named.{any_of_all, both_same, list_any-map, or_assoc, same_from, then_same}
 use Rattle.tree_board.proofs.Standings.{other_namings, subtree_namings}
@@ -130,88 +128,6 @@ held_alike f g (key ∷ keys) alike = λ i.
     alike key (or_left (bytes_eq key key) (list_any (bytes_eq key) keys) ((bytes_eq-Decides key key).1 refl)) i
     ∷ held_alike f g keys (λ other held. alike other (or_right (bytes_eq other key) (list_any (bytes_eq other) keys) held)) i
 
--- ---- the ports of a SubTree node
-
-both_true : (v a b : Bool) → (a ≡ true → b ≡ true) → (b ≡ true → v || a ≡ true) → v || a ≡ v || b
-both_true true a b f g = refl
-both_true false true b f g = sym (f refl)
-both_true false false true f g = g refl
-both_true false false false f g = refl
-
-more_names : (q : List ℕ → Bool) (value : PortValue) (name : List ℕ) (literals names : List (List ℕ)) → (list_any q literals ≡ true → list_any q names ≡ true)
-    → list_any q (literal_name value name ++ literals) ≡ true → q name || list_any q names ≡ true
-more_names q (Lit value) name literals names more held =
-    elim (q name) as (λ b. b || list_any q literals ≡ true → b || list_any q names ≡ true) [
-      | true ↦ λ _. refl
-      | false ↦ more
-    ] held
-more_names q (Key key) name literals names more held = or_right (q name) (list_any q names) (more held)
-
--- the names of ports that have literals are names of ports
-literals_named : (q : List ℕ → Bool) (ports : List Port) → list_any q (literal_names ports) ≡ true → list_any q (map (λ (port : Port). port.name) ports) ≡ true
-literals_named q [] held = held
-literals_named q (port ∷ ports) held = more_names q port.value port.name (literal_names ports) (map (λ (x : Port). x.name) ports) (literals_named q ports) held
-
--- a name that passes is that of some port
-passing : (q : List ℕ → Bool) (ports : List Port) → list_any q (map (λ (port : Port). port.name) ports) ≡ true
-    → (name : List ℕ) × (q name ≡ true) × (list_any (λ (port : Port). bytes_eq port.name name) ports ≡ true)
-passing q [] held = absurd (true≢false (sym held))
-passing q (port ∷ ports) held =
-    elim (q port.name) as (λ b. q port.name ≡ b → b || list_any q (map (λ (x : Port). x.name) ports) ≡ true
-    → (name : List ℕ) × (q name ≡ true) × (list_any (λ (x : Port). bytes_eq x.name name) (port ∷ ports) ≡ true)) [
-      | true ↦ λ e _. (port.name, e, or_left _ _ ((bytes_eq-Decides port.name port.name).1 refl))
-      | false ↦ λ _ rest.
-          let found = passing q ports rest in
-          (found.0, found.1, or_right (bytes_eq port.name found.0) _ found.2)
-    ] refl held
-
-module _ (p : Cell → Bool) (uid : ℕ) (autoremap : Bool) (outer : Scope) (name : List ℕ) (q : List ℕ → Bool) (passes : q name ≡ true) where
-  abbrev keys_or_literals : List Port → Bool
-  keys_or_literals ports = list_any p (map outer (flat_map (λ (port : Port). value_keys port.value) ports)) || list_any q (literal_names ports)
-
-  by_value : (value : PortValue) (own : List ℕ) (keys literals : List (List ℕ)) → own ≡ name → p (cell_by_port (Some (record { name = own; value = value })) uid autoremap outer name) ≡ true
-      → list_any p (map outer (value_keys value ++ keys)) || list_any q (literal_name value own ++ literals) ≡ true
-  by_value (Key key) own keys literals is held = or_left _ _ (or_left (p (outer key)) _ held)
-  by_value (Lit value) own keys literals is held = or_right (list_any p (map outer keys)) _ (or_left (q own) _ (ap q is ∙ passes))
-
-  one_more : (value : PortValue) (own : List ℕ) (keys literals : List (List ℕ)) → list_any p (map outer keys) || list_any q literals ≡ true
-      → list_any p (map outer (value_keys value ++ keys)) || list_any q (literal_name value own ++ literals) ≡ true
-  one_more (Key key) own keys literals held =
-      elim (p (outer key)) as (λ b. (b || list_any p (map outer keys)) || list_any q literals ≡ true) [
-        | true ↦ refl
-        | false ↦ held
-      ]
-  one_more (Lit value) own keys literals held =
-      elim (list_any p (map outer keys)) as (λ b. b || list_any q literals ≡ true → b || (q own || list_any q literals) ≡ true) [
-        | true ↦ λ _. refl
-        | false ↦ λ rest. or_right (q own) _ rest
-      ] held
-
-  -- the first port of a name has a key of the scope further out, or a literal
-  first_port : (ports : List Port) → list_any (λ (port : Port). bytes_eq port.name name) ports ≡ true → p (cell_by_port (port_of ports name) uid autoremap outer name) ≡ true
-      → keys_or_literals ports ≡ true
-  first_port [] some held = absurd (true≢false (sym some))
-  first_port (port ∷ ports) some held =
-      elim (bytes_eq port.name name) as (λ b. bytes_eq port.name name ≡ b → b || list_any (λ (x : Port). bytes_eq x.name name) ports ≡ true
-      → p (cell_by_port (cond b (Some port) (port_of ports name)) uid autoremap outer name) ≡ true → keys_or_literals (port ∷ ports) ≡ true) [
-        | true ↦ λ e _ is. by_value port.value port.name _ _ ((bytes_eq-Decides port.name name).0 e) is
-        | false ↦ λ _ rest is. one_more port.value port.name _ _ (first_port ports rest is)
-      ] refl some held
-
--- beside the keys that its ports name where it stands, a SubTree node names no more cells by all its ports than by those that have literals
-pub literals_suffice : (uid : ℕ) (ports : List Port) (autoremap : Bool) (outer : Scope) (p : Cell → Bool)
-    → list_any p (map outer (flat_map (λ (port : Port). value_keys port.value) ports)) || list_any p (map (scope_below uid ports autoremap outer) (literal_names ports))
-    ≡ list_any p (map outer (flat_map (λ (port : Port). value_keys port.value) ports)) || list_any p (map (scope_below uid ports autoremap outer) (map (λ (port : Port). port.name) ports))
-literals_suffice uid ports autoremap outer p =
-    let below = scope_below uid ports autoremap outer in
-    let q = λ (key : List ℕ). p (below key) in
-    let values = list_any p (map outer (flat_map (λ (port : Port). value_keys port.value) ports)) in
-    let names = map (λ (port : Port). port.name) ports in
-    ap (λ b. values || b) (list_any-map p below (literal_names ports))
-    ∙ both_true values (list_any q (literal_names ports)) (list_any q names) (literals_named q ports)
-    (λ held. let found = passing q ports held in first_port p uid autoremap outer found.0 q found.1 ports found.2 found.1)
-    ∙ ap (λ b. values || b) (sym (list_any-map p below names))
-
 -- ---- what a node names, and its children
 
 pub cells_both : (xs ys : List Naming) → cells_named (xs ++ ys) ≡ cells_named xs ++ cells_named ys
@@ -234,11 +150,11 @@ other_cells t uid number scope other =
 -- and of a SubTree node
 pub subtree_cells : (t : Term) (uid number : ℕ) (scope : Scope) → (out-Term t).kind ≡ SubTree
     → cells_named (namings_of_term t uid number scope)
-    ≡ map scope (keys_of_node t) ++ map (scope_below uid (out-Term t).ports (out-Term t).autoremap scope) (map (λ (port : Port). port.name) (out-Term t).ports)
+    ≡ map scope (keys_of_node t) ++ map (scope_below uid (out-Term t).ports (out-Term t).autoremap scope) (literal_names (out-Term t).ports)
     ++ cells_named (namings_of_terms (out-Term t).children (uid + 1) uid (scope_below uid (out-Term t).ports (out-Term t).autoremap scope))
 subtree_cells t uid number scope is_subtree =
     let below = scope_below uid (out-Term t).ports (out-Term t).autoremap scope in
-    let names = map (λ (port : Port). port.name) (out-Term t).ports in
+    let names = literal_names (out-Term t).ports in
     let own = map (named_in number scope) (keys_of_node t) in
     let children = namings_of_terms (out-Term t).children (uid + 1) uid below in
     ap cells_named (subtree_namings t uid number scope uid below is_subtree refl (λ key. refl))
@@ -265,15 +181,6 @@ other_found cells keys keys' own children whole node is p =
     ∙ ap (λ b. b || (o || c)) (sym (list_any-append p cells keys))
     ∙ ap (λ b. list_any p (cells ++ keys) || b) (sym (ap (list_any p) is ∙ list_any-append p own children))
     ∙ sym (list_any-append p (cells ++ keys) whole)
-
--- beside what it names where it stands
-own_suffices : (uid : ℕ) (ports : List Port) (autoremap : Bool) (outer : Scope) (scripts : List (List ℕ)) (p : Cell → Bool)
-    → list_any p (map outer (scripts ++ flat_map (λ (port : Port). value_keys port.value) ports)) || list_any p (map (scope_below uid ports autoremap outer) (literal_names ports))
-    ≡ list_any p (map outer (scripts ++ flat_map (λ (port : Port). value_keys port.value) ports)) || list_any p (map (scope_below uid ports autoremap outer) (map (λ (port : Port). port.name) ports))
-own_suffices uid ports autoremap outer [] p = literals_suffice uid ports autoremap outer p
-own_suffices uid ports autoremap outer (name ∷ scripts) p =
-    let rest = list_any p (map outer (scripts ++ flat_map (λ (port : Port). value_keys port.value) ports)) in
-    or_assoc (p (outer name)) rest _ ∙ ap (λ b. p (outer name) || b) (own_suffices uid ports autoremap outer scripts p) ∙ sym (or_assoc (p (outer name)) rest _)
 
 subtree_or : (a k o i l : Bool) → (a || (k || o)) || (i || l) ≡ (a || i) || (k || (o || l))
 subtree_or true k o i l = refl
@@ -313,19 +220,18 @@ children_found cells keys own names children whole is p =
     ∙ sym (list_any-append p (cells ++ keys) whole)
 
 -- and then the keys that are named in its scope
-pub subtree_found : (cells cells' keys keys' own inner inner' literals names children whole : List Cell) → HaveSame keys' (keys ++ own) → HaveSame inner' (inner ++ literals)
-    → HaveSame (cells' ++ inner) ((cells ++ []) ++ children) → ((p : Cell → Bool) → list_any p own || list_any p literals ≡ list_any p own || list_any p names)
-    → whole ≡ (own ++ names) ++ children → HaveSame ((cells' ++ keys') ++ inner') ((cells ++ keys) ++ whole)
-subtree_found cells cells' keys keys' own inner inner' literals names children whole node below found suffices is p =
+pub subtree_found : (cells cells' keys keys' own inner inner' names children whole : List Cell) → HaveSame keys' (keys ++ own) → HaveSame inner' (inner ++ names)
+    → HaveSame (cells' ++ inner) ((cells ++ []) ++ children) → whole ≡ (own ++ names) ++ children → HaveSame ((cells' ++ keys') ++ inner') ((cells ++ keys) ++ whole)
+subtree_found cells cells' keys keys' own inner inner' names children whole node below found is p =
     let k = list_any p keys in
     let o = list_any p own in
-    let l = list_any p literals in
+    let m = list_any p names in
     list_any-append p (cells' ++ keys') inner'
-    ∙ (λ i. (list_any-append p cells' keys' ∙ ap (λ b. list_any p cells' || b) (node p ∙ list_any-append p keys own)) i || (below p ∙ list_any-append p inner literals) i)
-    ∙ subtree_or (list_any p cells') k o (list_any p inner) l
-    ∙ (λ i. (sym (list_any-append p cells' inner) ∙ found p) i || (k || suffices p i))
+    ∙ (λ i. (list_any-append p cells' keys' ∙ ap (λ b. list_any p cells' || b) (node p ∙ list_any-append p keys own)) i || (below p ∙ list_any-append p inner names) i)
+    ∙ subtree_or (list_any p cells') k o (list_any p inner) m
+    ∙ ap (λ b. b || (k || (o || m))) (sym (list_any-append p cells' inner) ∙ found p)
     ∙ ap (λ b. list_any p ((cells ++ []) ++ children) || b)
-    (sym (list_any-append p (keys ++ own) names ∙ ap (λ b. b || list_any p names) (list_any-append p keys own) ∙ or_assoc k o (list_any p names)))
+    (sym (list_any-append p (keys ++ own) names ∙ ap (λ b. b || m) (list_any-append p keys own) ∙ or_assoc k o m))
     ∙ sym (list_any-append p ((cells ++ []) ++ children) (keys ++ own ++ names))
     ∙ children_found cells keys own names children whole is p
 
@@ -346,18 +252,17 @@ subtree_left term uid number first scope keys keys' none named named' listed cel
     ∙ held_alike left below named' (λ key held. is_inner scope key held ∙ ap (λ (ps : List Port). scope_below uid ps node.autoremap scope key) is_ports) in
     then_same _ _ _ (same_from _ _ (ap (λ (cs : List Cell). found_so_far scope keys' cells' ++ cs) alike))
     (subtree_found cells.keys cells'.keys (map scope keys) (map scope keys') (map scope (keys_of_node term)) (map below named) (map below named')
-    (map below (literal_names node.ports)) (map below (map (λ (port : Port). port.name) node.ports)) (cells_named (namings_of_terms node.children (uid + 1) uid below)) _
+    (map below (literal_names node.ports)) (cells_named (namings_of_terms node.children (uid + 1) uid below)) _
     (cells_once scope keys (keys_of_node term) keys' is_keys)
     (cells_once below named (literal_names node.ports) named' (is_named ∙ ap (λ (ps : List Port). insert_all bytes_eq named (literal_names ps)) is_ports))
     (then_same _ _ _ (found uid below) (same_from _ _ (λ i. (cells.keys ++ map below (is_none i)) ++ cells_named (namings_of_terms (is_terms i) (is_first i) uid below))))
-    (own_suffices uid node.ports node.autoremap scope (script_names (scripts_of node.code node.guards)))
     (subtree_cells term uid number scope is_subtree))
 
 -- the cells that are still to come beside those of its children
 abbrev pub beside_children : Term → ℕ → Scope → List (List ℕ) → List Cell
 beside_children term uid scope keys =
     map scope keys ++ map scope (keys_of_node term)
-    ++ map (scope_below uid (out-Term term).ports (out-Term term).autoremap scope) (map (λ (port : Port). port.name) (out-Term term).ports)
+    ++ map (scope_below uid (out-Term term).ports (out-Term term).autoremap scope) (literal_names (out-Term term).ports)
 
 pub subtree_children : (term : Term) (uid number first : ℕ) (scope : Scope) (keys none : List (List ℕ)) (cells : BTreeSet Cell) (terms : List Term)
     → (out-Term term).kind ≡ SubTree → terms ≡ (out-Term term).children → first ≡ uid + 1 → none ≡ []
@@ -369,7 +274,7 @@ subtree_children term uid number first scope keys none cells terms is_subtree is
     let below = scope_below uid node.ports node.autoremap scope in
     then_same _ _ _
     (same_from _ _ (λ i. ((cells.keys ++ map below (is_none i)) ++ cells_named (namings_of_terms (is_terms i) (is_first i) uid below)) ++ beside_children term uid scope keys))
-    (children_found cells.keys (map scope keys) (map scope (keys_of_node term)) (map below (map (λ (port : Port). port.name) node.ports))
+    (children_found cells.keys (map scope keys) (map scope (keys_of_node term)) (map below (literal_names node.ports))
     (cells_named (namings_of_terms node.children (uid + 1) uid below)) _ (subtree_cells term uid number scope is_subtree))
 
 -- what is found of another node with its children

@@ -12,9 +12,11 @@ use Rattle.spec_tree.specs.declared.cell.Naming.{Naming}
 use Rattle.spec_tree.specs.declared.term.Kind.{Kind}
 use Rattle.spec_tree.specs.declared.term.Kind.TheVariants.{SubTree}
 use Rattle.spec_tree.specs.declared.term.Port.{Port}
+use Rattle.spec_tree.specs.declared.term.PortValue.{PortValue}
+use Rattle.spec_tree.specs.declared.term.PortValue.TheVariants.{Lit, Key}
 use Rattle.spec_tree.specs.declared.term.Term.{Term, Term-F, ind-Term, fold-roll-Term}
 use Rattle.spec_tree.specs.declared.term.Tree.{Tree}
-use Rattle.spec_tree.specs.Boards.{Scope, Standing, children_scope, children_scope_number, keys_named, main_scope, makes_scope, named_in, namings, namings_at, scope_below, scripts_of, slots, standing_all, standing_from, standing_step, value_keys}
+use Rattle.spec_tree.specs.Boards.{Scope, Standing, children_scope, children_scope_number, keys_named, literal_name, literal_names, main_scope, makes_scope, named_in, namings, namings_at, scope_below, scripts_of, slots, standing_all, standing_from, standing_step, value_keys}
 use Rattle.tree_board.specs.Namings.{name_count, namings_of_term, namings_of_terms, own_name_count, script_names}
 use Rattle.tree_board.proofs.CellOrder.{in_order_length}
 
@@ -37,8 +39,8 @@ here x uid number scope = record {
 }
 
 inner_count : (makes : Bool) (uid : ℕ) (inner : Scope) (ports : List Port)
-    → length (if makes then map (λ (port : Port). named_in uid inner port.name) ports else []) ≡ (if makes then length ports else 0)
-inner_count true uid inner ports = length-map ports (λ (port : Port). named_in uid inner port.name)
+    → length (if makes then map (named_in uid inner) (literal_names ports) else []) ≡ (if makes then length (literal_names ports) else 0)
+inner_count true uid inner ports = length-map (literal_names ports) (named_in uid inner)
 inner_count false uid inner ports = refl
 
 own_count : {A : Type 0} (x : Term-F A) (uid number : ℕ) (scope : Scope) → length (namings_at (here x uid number scope)) ≡ own_name_count x
@@ -47,7 +49,7 @@ own_count x uid number scope =
     let scripts = script_names (scripts_of x.code x.guards) in
     let values = flat_map (λ (port : Port). value_keys port.value) x.ports in
     let inner = scope_below uid x.ports x.autoremap scope in
-    let made : List Naming = if makes_scope x.kind then map (λ (port : Port). named_in uid inner port.name) x.ports else [] in
+    let made : List Naming = if makes_scope x.kind then map (named_in uid inner) (literal_names x.ports) else [] in
     length-append (map (named_in number scope) (keys_named node)) made
     ∙ omega (arith, length-map (keys_named node) (named_in number scope), length-append scripts values, inner_count (makes_scope x.kind) uid inner x.ports)
 
@@ -93,9 +95,24 @@ pub record AreLeft (scripts : List Script) (before now : ℕ) : Type 0 where
 pub AreLeft-more : {xs : List Script} {before now : ℕ} → AreLeft xs before now → (ys : List Script) (next : ℕ) → length (script_names ys) + next ≤ now → AreLeft (xs ++ ys) before next
 AreLeft-more {xs} {before} {now} so_far ys next more = record { fits = omega (arith, script_names_both xs ys, so_far.fits, more) }
 
--- a SubTree node names its ports as well
+literal_at_most : (value : PortValue) (name : List ℕ) → length (literal_name value name) ≤ 1
+literal_at_most (Lit value) name = omega arith
+literal_at_most (Key key) name = omega arith
+
+-- no more ports have literals than there are
+pub few_literals : (ports : List Port) → length (literal_names ports) ≤ length ports
+few_literals [] = omega arith
+few_literals (port ∷ ports) =
+    omega (arith, length-append (literal_name port.value port.name) (literal_names ports), literal_at_most port.value port.name, few_literals ports)
+
+-- a SubTree node names those of its ports that have literals as well
 pub subtree_ports : (kind : Kind) (ports : ℕ) → kind ≡ SubTree → (if makes_scope kind then ports else 0) ≡ ports
 subtree_ports kind ports is = ap (λ (k : Kind). if makes_scope k then ports else 0) is
+
+-- and no other node names ports in a scope of its own
+pub other_ports : (kind : Kind) (ports : ℕ) → (kind ≡ SubTree → ⊥) → (if makes_scope kind then ports else 0) ≡ 0
+other_ports SubTree ports other = absurd (other refl)
+other_ports _ ports other = refl
 
 pub taken_from : (rest : Option ℕ) (n left : ℕ) → SomeIff rest (n ≤ left) (left - n) → IfSome rest (λ r. n + r ≤ left)
 taken_from None n left h = tt

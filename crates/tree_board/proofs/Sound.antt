@@ -8,7 +8,7 @@ use Rattle.spec_tree.specs.declared.term.Kind.TheVariants.{SubTree}
 use Rattle.spec_tree.specs.declared.term.Port.{Port}
 use Rattle.spec_tree.specs.declared.term.Term.{Term, Term-F, ind-Term, fold-roll-Term}
 use Rattle.spec_tree.specs.declared.term.Tree.{Tree}
-use Rattle.spec_tree.specs.Boards.{Scope, Standing, main_scope, standing, standing_step, standing_from, standing_all, children_scope, children_scope_number, scope_below, makes_scope, namings, namings_at, named_in, keys_named}
+use Rattle.spec_tree.specs.Boards.{Scope, Standing, main_scope, standing, standing_step, standing_from, standing_all, children_scope, children_scope_number, literal_names, scope_below, makes_scope, namings, namings_at, named_in, keys_named}
 use Rattle.base_tables.specs.SlotTables.{scope_made, scope_of}
 
 -- ---- uids are places in pre-order
@@ -142,20 +142,15 @@ all_named : (P : Naming → Type 0) (number : ℕ) (scope : Scope) → ((key : L
 all_named P number scope each [] = tt
 all_named P number scope each (key ∷ keys) = (each key, all_named P number scope each keys)
 
-all_ports : (P : Naming → Type 0) (number : ℕ) (scope : Scope) → ((key : List ℕ) → P (named_in number scope key)) → (ports : List Port)
-    → AllByRecursion P (map (λ (port : Port). named_in number scope port.name) ports)
-all_ports P number scope each [] = tt
-all_ports P number scope each (port ∷ ports) = (each port.name, all_ports P number scope each ports)
-
 module _ (tree : Tree) where
   node_named : (node : Standing) → StandsThere (standing tree) node → IsFound (standing tree) node → AllByRecursion (IsTrue_cell tree) (namings_at node)
   node_named node stands found =
       all_append (IsTrue_cell tree) (map (named_in node.number node.scope) (keys_named node)) _
       (all_named (IsTrue_cell tree) node.number node.scope (λ key. ap (λ (s : Scope). s key) (sym stands)) (keys_named node))
       (elim (makes_scope node.kind) as (λ b. (b ≡ true → find (makes node.uid) (standing tree) ≡ Some node)
-      → AllByRecursion (IsTrue_cell tree) (if b then map (λ (port : Port). named_in node.uid (scope_below node.uid node.ports node.autoremap node.scope) port.name) node.ports else [])) [
-        | true ↦ λ is_found. all_ports (IsTrue_cell tree) node.uid (scope_below node.uid node.ports node.autoremap node.scope)
-            (λ key. ap (λ (o : Option Standing). scope_made o key) (sym (is_found refl))) node.ports
+      → AllByRecursion (IsTrue_cell tree) (if b then map (named_in node.uid (scope_below node.uid node.ports node.autoremap node.scope)) (literal_names node.ports) else [])) [
+        | true ↦ λ is_found. all_named (IsTrue_cell tree) node.uid (scope_below node.uid node.ports node.autoremap node.scope)
+            (λ key. ap (λ (o : Option Standing). scope_made o key) (sym (is_found refl))) (literal_names node.ports)
         | false ↦ λ _. tt
       ] found)
 

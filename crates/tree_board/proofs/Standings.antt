@@ -3,14 +3,12 @@ use Rattle.std.proofs.Common.{◌≡◌, ℕ, ◌+◌, ◌<◌, List, [], ◌∷
 use Rattle.std.proofs.lemmas.Grind.{flat_map-append}
 use Rattle.std.proofs.lemmas.List.{drop_more}
 use Rattle.std.proofs.lemmas.List.Sums.{sum_by-cons}
-use Rattle.std.proofs.lemmas.Simd.{map-map}
 use Rattle.std.specs.List.{flat_map}
 use Rattle.spec_tree.specs.declared.cell.Naming.{Naming}
 use Rattle.spec_tree.specs.declared.term.Kind.{Kind}
 use Rattle.spec_tree.specs.declared.term.Kind.TheVariants.{SubTree}
-use Rattle.spec_tree.specs.declared.term.Port.{Port}
 use Rattle.spec_tree.specs.declared.term.Term.{Term, Term-F, ind-Term, fold-roll-Term, fold_out-Term, out-Term}
-use Rattle.spec_tree.specs.Boards.{Scope, Standing, standing_step, standing_from, standing_all, namings_at, named_in, scope_below, children_scope, children_scope_number, scripts_of, makes_scope}
+use Rattle.spec_tree.specs.Boards.{Scope, Standing, standing_step, standing_from, standing_all, literal_names, namings_at, named_in, scope_below, children_scope, children_scope_number, scripts_of, makes_scope}
 use Rattle.spec_tree.specs.Terms.{node_count}
 use Rattle.tree_board.specs.Namings.{namings_of_term, namings_of_terms, keys_of_node}
 
@@ -85,23 +83,21 @@ namings_here ts i t uid next number scope within is_t is_next =
 abbrev pub namings_by : Kind → Term → ℕ → ℕ → Scope → List Naming
 namings_by kind t uid number scope =
     map (named_in number scope) (keys_of_node t)
-    ++ (if makes_scope kind then map (λ (port : Port). named_in uid (scope_below uid (out-Term t).ports (out-Term t).autoremap scope) port.name) (out-Term t).ports else [])
+    ++ (if makes_scope kind then map (named_in uid (scope_below uid (out-Term t).ports (out-Term t).autoremap scope)) (literal_names (out-Term t).ports) else [])
     ++ namings_of_terms (out-Term t).children (uid + 1) (children_scope_number kind uid number) (children_scope kind uid (out-Term t).ports (out-Term t).autoremap scope)
 
--- a SubTree node names its ports in the scope that it makes
+-- a SubTree node names those of its ports that have literals in the scope that it makes
 pub subtree_namings : (t : Term) (uid number : ℕ) (scope : Scope) (inner_number : ℕ) (inner : Scope) → (out-Term t).kind ≡ SubTree → inner_number ≡ uid
     → ((key : List ℕ) → inner key ≡ scope_below uid (out-Term t).ports (out-Term t).autoremap scope key)
-    → namings_of_term t uid number scope ≡ map (named_in number scope) (keys_of_node t) ++ map (named_in inner_number inner) (map (λ (port : Port). port.name) (out-Term t).ports)
+    → namings_of_term t uid number scope ≡ map (named_in number scope) (keys_of_node t) ++ map (named_in inner_number inner) (literal_names (out-Term t).ports)
     ++ namings_of_terms (out-Term t).children (uid + 1) inner_number inner
 subtree_namings t uid number scope inner_number inner is_subtree is_uid is_inner =
     let made = scope_below uid (out-Term t).ports (out-Term t).autoremap scope in
     let same : inner ≡ made = λ i key. is_inner key i in
     subst (λ (kind : Kind). namings_of_term t uid number scope ≡ namings_by kind t uid number scope) is_subtree (namings_out t uid number scope)
-    ∙ ap (λ (names : List Naming). map (named_in number scope) (keys_of_node t) ++ names ++ namings_of_terms (out-Term t).children (uid + 1) uid made)
-    (sym (map-map (named_in uid made) (λ (port : Port). port.name) (out-Term t).ports))
-    ∙ sym (ap (λ (n : ℕ). map (named_in number scope) (keys_of_node t) ++ map (named_in n inner) (map (λ (port : Port). port.name) (out-Term t).ports)
+    ∙ sym (ap (λ (n : ℕ). map (named_in number scope) (keys_of_node t) ++ map (named_in n inner) (literal_names (out-Term t).ports)
     ++ namings_of_terms (out-Term t).children (uid + 1) n inner) is_uid
-    ∙ ap (λ (s : Scope). map (named_in number scope) (keys_of_node t) ++ map (named_in uid s) (map (λ (port : Port). port.name) (out-Term t).ports)
+    ∙ ap (λ (s : Scope). map (named_in number scope) (keys_of_node t) ++ map (named_in uid s) (literal_names (out-Term t).ports)
     ++ namings_of_terms (out-Term t).children (uid + 1) uid s) same)
 
 -- any other node makes no scope

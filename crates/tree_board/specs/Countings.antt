@@ -52,12 +52,3 @@ cell_left None uid autoremap outer key = cell_by_port None uid autoremap outer k
 -- the cell of a key that is named in the scope of a SubTree node, within another scope
 abbrev pub cells_left : Inner → Scope → Scope
 cells_left inner outer key = cell_left (get bytes_eq inner.mapped key) inner.uid inner.autoremap outer key
-
--- the names of a port that has a literal
-abbrev pub literal_name : PortValue → List ℕ → List (List ℕ)
-literal_name (Lit value) name = name ∷ []
-literal_name (Key key) name = []
-
--- the names of the ports that have literals
-abbrev pub literal_names : List Port → List (List ℕ)
-literal_names ports = flat_map (λ (port : Port). literal_name port.value port.name) ports

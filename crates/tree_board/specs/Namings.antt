@@ -6,7 +6,7 @@ use Rattle.spec_script.specs.Scripts.{stmt_names}
 use Rattle.spec_tree.specs.declared.cell.Naming.{Naming}
 use Rattle.spec_tree.specs.declared.term.Port.{Port}
 use Rattle.spec_tree.specs.declared.term.Term.{Term, Term-F, fold-Term, out-Term}
-use Rattle.spec_tree.specs.Boards.{makes_scope, named_in, namings_at, scripts_of, standing_from, standing_all, value_keys}
+use Rattle.spec_tree.specs.Boards.{literal_names, makes_scope, named_in, namings_at, scripts_of, standing_from, standing_all, value_keys}
 use Rattle.spec_tree.specs.Boards as model
 use Rattle.tree_board.specs.declared.scope.Scope.{Scope}
 use Rattle.tree_board.specs.Scopes.{number_of, cells_of}
@@ -46,11 +46,11 @@ abbrev pub AreNamed : Scope → (ℕ → model.Scope → List Naming) → List (
 AreNamed scope within keys_before before keys now =
     HaveSame (named_so_far scope keys now) (named_so_far scope keys_before before ++ within (number_of scope) (cells_of scope))
 
--- how many keys a node names: in its scripts and by its ports, and a SubTree node its ports in the scope that it makes
+-- how many keys a node names: in its scripts and by its ports, and a SubTree node those with literals in the scope that it makes
 abbrev pub own_name_count : {A : Type 0} → Term-F A → ℕ
 own_name_count node =
     length (script_names (scripts_of node.code node.guards)) + length (flat_map (λ (port : Port). value_keys port.value) node.ports)
-    + (if makes_scope node.kind then length node.ports else 0)
+    + (if makes_scope node.kind then length (literal_names node.ports) else 0)
 
 -- how many keys the nodes of a term name
 abbrev pub name_count : Term → ℕ

@@ -3,16 +3,15 @@ ghost use Rattle.std.specs.List.{flat_map, list_any};
 ghost use Rattle.std.specs.Option.{option_or};
 ghost use Rattle.std.specs.Str.{bytes_eq};
 ghost use Rattle.indexmap.specs.IndexMap.{get};
-ghost use Rattle.indexmap.specs.IndexSet.{insert_all};
 ghost use Rattle.spec_tree.specs.declared.term.Kind.TheVariants.{SubTree};
 ghost use Rattle.spec_tree.specs.declared.term.Term.{out-Term};
 ghost use Rattle.spec_tree.specs.Boards.{Scope, main_scope, owner, scope_below, namings, slots};
 ghost use Rattle.spec_tree.specs.Terms.{node_count};
-ghost use Rattle.tree_board.specs.Countings.{Found, cells_left, found_so_far, literal_names, mapped_by, mapped_by_port, cells_named};
+ghost use Rattle.tree_board.specs.Countings.{Found, cells_left, found_so_far, mapped_by, mapped_by_port, cells_named};
 ghost use Rattle.tree_board.specs.Namings.{namings_of_term, namings_of_terms};
 
 use crate::keys::Keys;
-use crate::naming::{name_node, uid_after};
+use crate::naming::{name_literals, name_node, uid_after};
 use crate::scope::{begins_private, owned};
 use base_texts::{Name, NoMemory, Stop};
 use indexmap::IndexMap;
@@ -155,19 +154,6 @@ fn leave(
 {
     for key in named {
         leave_with(limit, inner, key, keys, cells)?;
-    }
-    Ok(())
-}
-
-/// Adds the names of the ports that have literals. The keys that the other ports name stand further out, where their
-/// SubTree node names them.
-fn name_literals(alloc: Global, ports: &[Port], keys: &mut Keys) -> Result<(), NoMemory>
-    ensures { OnOk result (keys.new ≡ insert_all bytes_eq keys.old (literal_names ports.now)) }
-{
-    for port in ports {
-        if let PortValue::Lit(_) = &port.value {
-            keys.name(alloc, &port.name)?;
-        }
     }
     Ok(())
 }

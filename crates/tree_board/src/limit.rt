@@ -49,7 +49,7 @@ fn left_by_values(ports: &[Port], left: usize) -> Option<usize>
     Some(rest)
 }
 
-/// Counts down by what a node names: a SubTree node names its ports as well.
+/// Counts down by what a node names: a SubTree node names no more than its ports as well.
 fn left_by_node(node: &Term, left: usize) -> Option<usize>
     ensures { IfSome result (λ rest. own_name_count (out-Term node.now) + rest ≤ left) }
 {

@@ -4,7 +4,7 @@ ghost use Rattle.std.specs.Str.{bytes_eq};
 ghost use Rattle.indexmap.specs.IndexSet.{insert_all};
 ghost use Rattle.spec_tree.specs.declared.term.Kind.TheVariants.{SubTree};
 ghost use Rattle.spec_tree.specs.declared.term.Term.{out-Term};
-ghost use Rattle.spec_tree.specs.Boards.{given, scripts_of, value_keys, namings};
+ghost use Rattle.spec_tree.specs.Boards.{given, literal_names, scripts_of, value_keys, namings};
 ghost use Rattle.spec_tree.specs.Terms.{node_count};
 ghost use Rattle.tree_board.specs.Namings.{script_names, names_here, keys_of_node, namings_of_term, namings_of_terms, AreNamed, HaveSame};
 
@@ -64,12 +64,15 @@ fn name_values(alloc: Global, ports: &[Port], keys: &mut Keys) -> Result<(), NoM
     Ok(())
 }
 
-/// Adds the names of ports: their SubTree node names them in the scope that it makes.
-fn name_ports(alloc: Global, ports: &[Port], keys: &mut Keys) -> Result<(), NoMemory>
-    ensures { OnOk result (keys.new ≡ insert_all bytes_eq keys.old (map (λ port. port.name) ports.now)) }
+/// Adds the names of the ports that have literals: their SubTree node names them in the scope that it makes. The keys that
+/// the other ports name stand further out, where their SubTree node names them.
+pub(crate) fn name_literals(alloc: Global, ports: &[Port], keys: &mut Keys) -> Result<(), NoMemory>
+    ensures { OnOk result (keys.new ≡ insert_all bytes_eq keys.old (literal_names ports.now)) }
 {
     for port in ports {
-        keys.name(alloc, &port.name)?;
+        if let PortValue::Lit(_) = &port.value {
+            keys.name(alloc, &port.name)?;
+        }
     }
     Ok(())
 }
@@ -131,7 +134,7 @@ fn name_subtree(
     let mappings = mappings_of(alloc, uid, ports, term.autoremap, scope)?;
     let inner = Scope::Below(&mappings, &*scope);
     let mut inner_keys = Keys::new(alloc);
-    name_ports(alloc, ports, &mut inner_keys)?;
+    name_literals(alloc, ports, &mut inner_keys)?;
     let children = term.children.list();
     let next = name_terms(alloc, children, first, &inner, &mut inner_keys, namings)?;
     name_scope(alloc, &inner, &inner_keys, namings)?;

@@ -4,7 +4,7 @@ use Rattle.std.proofs.lemmas.Result.{on_ok_weaker}
 use Rattle.std.specs.List.{list_any}
 use Rattle.std.specs.Str.{bytes_eq}
 use Rattle.indexmap.specs.IndexSet.{insert_all}
-use Rattle.spec_tree.specs.Boards.{named_in, scope_below}
+use Rattle.spec_tree.specs.Boards.{literal_names, named_in, scope_below}
 use Rattle.spec_tree.specs.declared.cell.Naming.{Naming}
 use Rattle.spec_tree.specs.declared.term.Port.{Port}
 use Rattle.spec_tree.specs.declared.term.Term.{Term, fold_out-Term, out-Term}
@@ -33,12 +33,12 @@ name_subtree-returns-clause-named t c =
     let is_inner : (key : List ℕ) → inner key ≡ scope_below c.args.uid (out-Term c.args.term.now).ports (out-Term c.args.term.now).autoremap outer key =
     λ key. c.in_ok-mappings.ensures.cells key ∙ ap (λ (ports : List Port). scope_below c.args.uid ports (out-Term c.args.term.now).autoremap outer key) c.list-ports.ensures in
     let named = subtree_namings c.args.term.now c.args.uid (number_of c.args.scope.now) outer _ inner c.requires c.in_ok-mappings.ensures.uid is_inner in
-    let names = map (λ (port : Port). port.name) (out-Term c.args.term.now).ports in
+    let names = literal_names (out-Term c.args.term.now).ports in
     let children = ap (λ (terms : List Term). namings_of_terms terms c.in_ok-first.first number inner) c.list-children.ensures
     ∙ ap (λ (uid : ℕ). namings_of_terms (out-Term c.args.term.now).children uid number inner) c.in_ok-first.ensures in
     let own = named_once (number_of c.args.scope.now) outer c.args.keys.now (keys_of_node c.args.term.now) _ c.in_ok-name_node.ensures in
-    let ports = c.in_ok-name_ports.ensures
-    ∙ ap (λ (ports : List Port). insert_all bytes_eq c.new-inner_keys.result (map (λ (port : Port). port.name) ports)) c.list-ports.ensures
+    let ports = c.in_ok-name_literals.ensures
+    ∙ ap (λ (ports : List Port). insert_all bytes_eq c.new-inner_keys.result (literal_names ports)) c.list-ports.ensures
     ∙ ap (λ (keys : List (List ℕ)). insert_all bytes_eq keys names) c.new-inner_keys.ensures in
     subtree_named c.args.namings.now (names_here c.args.scope.now c.args.keys.now) _ (names_here c.args.scope.now (keys_of_node c.args.term.now)) _ (map (named_in number inner) names) _ _ _
     own (named_once number inner [] names _ ports) (λ p. ap (list_any p) c.in_ok-name_scope.ensures ∙ c.in_ok-next.ensures.named p)
