@@ -108,7 +108,7 @@ pub(crate) fn mappings_of(
     ensures cells { IfOk result (λ m. (key : List ℕ) → cells_below m (cells_of outer.now) key ≡
         scope_below uid ports.now autoremap (cells_of outer.now) key) }
 {
-    let mut cells = IndexMap::new(alloc);
+    let mut cells = IndexMap::with_capacity(alloc, ports.len())?;
     for port in ports {
         add_port(alloc, port, uid, outer, &mut cells)?;
     }
