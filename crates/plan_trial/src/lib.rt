@@ -2,13 +2,13 @@
 #![tactic(auto)]
 
 mod blocks;
-mod copying;
 mod goals;
+mod modelling;
 mod task;
 mod ticking;
 mod trying;
 
 pub use blocks::Blocks;
-pub use copying::modelled;
+pub use modelling::modelled;
 pub use task::{Task, task_of};
 pub use trying::{Tried, run_tree};

@@ -3,12 +3,12 @@ ghost use Rattle.std.specs.List.{list_all};
 ghost use Rattle.spec_world_file.specs.WorldFile.{AfterForm, AfterText, event_line, is_line_byte, line_by};
 ghost use Rattle.world_draft.specs.Readings.{Leaves};
 
-use crate::actions::{read_action, read_condition};
 use crate::additions::{read_effect, read_fails, read_need, read_out};
 use crate::events::{
     read_change, read_fact, read_goal, read_halt, read_moment, read_runners, read_tick,
 };
 use crate::rounds::read_every;
+use crate::rows::{read_action, read_condition};
 use crate::tellings::read_tell;
 use base_texts::Stop;
 use spec_world_file::WorldFaultKind;

@@ -2,17 +2,17 @@
 //! way, and as a valid world.
 #![tactic(auto)]
 
-mod actions;
 mod additions;
 mod events;
 mod forms;
 pub mod laws;
 mod read;
 mod rounds;
+mod rows;
 mod tellings;
 mod unique;
 
-pub use actions::comparison;
 pub use forms::read_text;
 pub use read::{read_script, read_world};
+pub use rows::comparison;
 pub use unique::{read_worlds_are_valid, worlds_read_one_way};

@@ -2,7 +2,7 @@ use Rattle.std.proofs.Common.{Option, sym, subst, ◌∙◌}
 use Rattle.spec_world_file.specs.WorldFile.{AfterForm, Line, head_in}
 use Rattle.world_draft.specs.Readings.{Leaves}
 use Rattle.world_reader.proofs.Saying.{timed_by_is, timed_ms_is}
-use Rattle.world_reader.proofs.actions.read_timed.Goals as goal
+use Rattle.world_reader.proofs.rows.read_timed.Goals as goal
 
 pub returns-then-starts_with : goal.returns-then-starts_with
 returns-then-starts_with c =

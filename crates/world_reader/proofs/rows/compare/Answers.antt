@@ -4,7 +4,7 @@ use Rattle.std.specs.List.{list_any}
 use Rattle.std.proofs.lemmas.Bool.{or_parts}
 use Rattle.spec_tree.specs.Names.{is_reserved}
 use Rattle.spec_world.specs.Worlds.{ids_of_rows}
-use Rattle.world_reader.proofs.actions.compare.Goals as goal
+use Rattle.world_reader.proofs.rows.compare.Goals as goal
 
 pub add_condition-requires-clause-free : goal.add_condition-requires-clause-free
 add_condition-requires-clause-free c =

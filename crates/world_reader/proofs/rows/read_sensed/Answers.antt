@@ -4,7 +4,7 @@ use Rattle.spec_world_file.specs.WorldFile.{SensedLine, with_row}
 use Rattle.spec_world.specs.declared.world.RowSort.TheVariants.{Sensed}
 use Rattle.world_lines.specs.Heads.{seen_head}
 use Rattle.world_reader.proofs.Saying.{adds, nothing_more, refuses}
-use Rattle.world_reader.proofs.actions.read_sensed.Goals as goal
+use Rattle.world_reader.proofs.rows.read_sensed.Goals as goal
 
 pub returns-in-Ok : goal.returns-in-Ok
 returns-in-Ok c =

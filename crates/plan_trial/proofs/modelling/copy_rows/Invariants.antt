@@ -1,5 +1,5 @@
 use Rattle.std.proofs.Common.{◌≡◌, take}
-use Rattle.plan_trial.proofs.copying.copy_rows.Given as goal
+use Rattle.plan_trial.proofs.modelling.copy_rows.Given as goal
 
 abbrev pub invariant-loop-row : goal.invariant-loop-row
 invariant-loop-row l = l.copied.items ≡ take l.row-index l.rows

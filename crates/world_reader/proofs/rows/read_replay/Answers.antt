@@ -6,7 +6,7 @@ use Rattle.spec_world.specs.declared.world.RowSort.TheVariants.{Replay}
 use Rattle.world_draft.specs.Drafts.{DraftSays, row_of}
 use Rattle.world_lines.specs.Heads.{seen_head}
 use Rattle.world_reader.proofs.Saying.{adds, lasts, of_head, refuses, replay_is}
-use Rattle.world_reader.proofs.actions.read_replay.Goals as goal
+use Rattle.world_reader.proofs.rows.read_replay.Goals as goal
 
 pub returns-in-Ok : goal.returns-in-Ok
 returns-in-Ok c =

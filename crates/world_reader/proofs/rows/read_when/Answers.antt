@@ -4,7 +4,7 @@ use Rattle.spec_world_file.specs.WorldFile.{WhenLine, ReadsNumeric, with_row}
 use Rattle.spec_world.specs.declared.world.RowSort.TheVariants.{When}
 use Rattle.world_lines.specs.Heads.{seen_head}
 use Rattle.world_reader.proofs.Saying.{adds, of_mapped, refuses, says_head}
-use Rattle.world_reader.proofs.actions.read_when.Goals as goal
+use Rattle.world_reader.proofs.rows.read_when.Goals as goal
 
 pub returns-in-Ok : goal.returns-in-Ok
 returns-in-Ok c =

@@ -6,7 +6,7 @@ use Rattle.spec_world.specs.declared.world.RowSort.TheVariants.{Timed}
 use Rattle.world_draft.specs.Drafts.{row_of}
 use Rattle.world_lines.specs.Heads.{seen_head}
 use Rattle.world_reader.proofs.Saying.{adds, lasts, of_head, refuses, timed_is}
-use Rattle.world_reader.proofs.actions.read_fixed.Goals as goal
+use Rattle.world_reader.proofs.rows.read_fixed.Goals as goal
 
 pub returns-in-Ok : goal.returns-in-Ok
 returns-in-Ok c =

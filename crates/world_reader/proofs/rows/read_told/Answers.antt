@@ -5,7 +5,7 @@ use Rattle.spec_world.specs.declared.world.RowSort.TheVariants.{Told}
 use Rattle.world_draft.specs.Drafts.{DraftSays, row_of}
 use Rattle.world_lines.specs.Heads.{seen_head}
 use Rattle.world_reader.proofs.Saying.{adds, nothing_more, refuses}
-use Rattle.world_reader.proofs.actions.read_told.Goals as goal
+use Rattle.world_reader.proofs.rows.read_told.Goals as goal
 
 pub returns-in-Ok : goal.returns-in-Ok
 returns-in-Ok c =

@@ -5,7 +5,7 @@ use Rattle.spec_world.specs.declared.world.RowSort.TheVariants.{Gate}
 use Rattle.world_draft.specs.Drafts.{row_of}
 use Rattle.world_lines.specs.Heads.{seen_head}
 use Rattle.world_reader.proofs.Saying.{adds, of_mapped, refuses, says_head}
-use Rattle.world_reader.proofs.actions.read_gate.Goals as goal
+use Rattle.world_reader.proofs.rows.read_gate.Goals as goal
 
 pub returns-in-Ok : goal.returns-in-Ok
 returns-in-Ok c =

@@ -1,5 +1,5 @@
 use Rattle.std.proofs.Common.{◌≡◌, take}
-use Rattle.plan_trial.proofs.copying.copy_outs.Given as goal
+use Rattle.plan_trial.proofs.modelling.copy_outs.Given as goal
 
 abbrev pub invariant-loop-out : goal.invariant-loop-out
 invariant-loop-out l = l.copied.items ≡ take l.out-index l.outs

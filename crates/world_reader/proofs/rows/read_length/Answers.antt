@@ -7,7 +7,7 @@ use Rattle.spec_world.specs.declared.world.RowSort.TheVariants.{TimedBy}
 use Rattle.world_draft.specs.Drafts.{row_of}
 use Rattle.world_lines.specs.Heads.{seen_head}
 use Rattle.world_reader.proofs.Saying.{adds, of_mapped, refuses, says_bare, says_length}
-use Rattle.world_reader.proofs.actions.read_length.Goals as goal
+use Rattle.world_reader.proofs.rows.read_length.Goals as goal
 
 pub returns-then-not-is_group : goal.returns-then-not-is_group
 returns-then-not-is_group c =
