@@ -258,31 +258,35 @@ fn expect_files<S: Shelf, K: Sink, C: Clock, D: Drivers>(
     }
 }
 
-/// Runs what the rules of these bytes of a rules file make of a tree, in a world.
+/// Runs what the rules of these bytes of a rules file make of a tree, in a world. The tree itself is dropped before that.
 fn run_mocked<S: Shelf, K: Sink, C: Clock, D: Drivers>(
     alloc: Global,
-    tree: &Tree,
+    tree: Tree,
     world: &World,
     rules: &[u8],
     outside: &mut Outside<S, K, C, D>,
 ) -> Result<Exit, Refusal>
-    requires tree { IsValid tree.now }
+    requires tree { IsValid tree }
     requires world { IsValidWorld world.now }
     requires quiet { NothingHeld (D.states outside.old.drivers.now) }
-    ensures ends { EndsAt (StandingGives (mocked rules.now tree.now) world.now course.Script) AreUncalled result
+    ensures ends { EndsAt (StandingGives (mocked rules.now tree) world.now course.Script) AreUncalled result
         (seen K.written K.faults C.moments D.states outside.old)
         (seen K.written K.faults C.moments D.states outside.new) }
     ensures unread { outside.new.shelf.now ≡ outside.old.shelf.now }
     ensures stays { Stays S.faults K.faults D.states outside.old outside.new }
     ensures writes { EndWrites K.write_gives result outside.old.out.now outside.new.out.now }
 {
-    match mock_tree(alloc, tree, rules) {
+    match mock_tree(alloc, &tree, rules) {
         Ok(mocked) => {
+            drop(tree);
             let ended = join_and_run(alloc, &mocked, world, Course::Script, outside);
             drop(mocked);
             ended
         }
-        Err(stopped) => Err(Refusal::from(stopped)),
+        Err(stopped) => {
+            drop(tree);
+            Err(Refusal::from(stopped))
+        }
     }
 }
 
@@ -310,9 +314,8 @@ fn mock_files<S: Shelf, K: Sink, C: Clock, D: Drivers>(
     let tree = parse_tree(alloc, tree, main)?;
     match read_world(alloc, world) {
         Ok(world) => {
-            let ended = run_mocked(alloc, &tree, &world, rules, outside);
+            let ended = run_mocked(alloc, tree, &world, rules, outside);
             drop(world);
-            drop(tree);
             ended
         }
         Err(stopped) => {
