@@ -265,7 +265,8 @@ size_t bt_fact_name(const bt_session *session, uint32_t fact, uint8_t *room, siz
 /* How many entries the blackboard of a runner can have: one for each key that the tree names, in the scope that owns it. */
 size_t bt_entry_count(const bt_session *session);
 
-/* The scope that owns an entry, which is the uid of a SubTree node, or 0 of the main tree; and its key there. */
+/* The scope that owns an entry, which is the uid of a SubTree node, or 0 of the main tree; and its key there. A name that a
+   SubTree node maps to a key has no entry of its own: its value is that of the key. */
 uint32_t bt_entry_scope(const bt_session *session, uint32_t slot);
 size_t bt_entry_key(const bt_session *session, uint32_t slot, uint8_t *room, size_t count);
 

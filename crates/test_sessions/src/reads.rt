@@ -11,7 +11,7 @@ use std::process::Abort;
 
 /// A tree in a tree: the leaf goes where its port says, and tells how many steps it has made.
 static TREE: &str = "<root BTCPP_format=\"4\" main_tree_to_execute=\"Main\">\
-<BehaviorTree ID=\"Main\"><Sequence><Script code=\"goal := 7\"/><SubTree ID=\"Drive\" name=\"way\" to=\"{goal}\"/></Sequence></BehaviorTree>\
+<BehaviorTree ID=\"Main\"><Sequence><Script code=\"goal := 7\"/><SubTree ID=\"Drive\" name=\"way\" to=\"{goal}\" spare=\"{goal}\" pace=\"2\"/></Sequence></BehaviorTree>\
 <BehaviorTree ID=\"Drive\"><Go name=\"legs\" to=\"{to}\" fast=\"yes\" steps=\"{steps}\"/></BehaviorTree></root>";
 
 static WORLD: &str = "bt-world 1\nfact calm 3\naction Go(to,fast) told\nout steps\n";
@@ -56,6 +56,32 @@ fn values_of(alloc: Global, session: &Session) -> Result<String, NoMemory> {
         session.port(1, 4, &fast).is_some(),
         session.entry(1, 3, &steps)
     )?)
+}
+
+/// The values of the entries of the leaf's scope and of the key that is handed down: of a name that a node in the scope
+/// names, of one that is mapped and named by none, and of one that has a literal.
+fn keys_of(alloc: Global, session: &Session) -> Result<String, NoMemory> {
+    let goal = Name::copied(alloc, b"goal")?;
+    let to = Name::copied(alloc, b"to")?;
+    let spare = Name::copied(alloc, b"spare")?;
+    let pace = Name::copied(alloc, b"pace")?;
+    Ok(format!(in alloc;
+        "{:?} {:?} {:?} {:?}",
+        session.entry(1, 0, &goal),
+        session.entry(1, 3, &to),
+        session.entry(1, 3, &spare),
+        session.entry(1, 3, &pace)
+    )?)
+}
+
+/// Reads the entries of keys, once they are written.
+fn read_keys(rt: &impl Abort, alloc: Global, session: &mut Session) -> Result<(), NoMemory> {
+    make(rt, session, What::Tick(1));
+    assert_eq!(rt;
+        keys_of(alloc, session)?.as_str(),
+        "Some(Int(7)) Some(Int(7)) None Some(Int(2))"
+    );
+    Ok(())
 }
 
 /// Tells the leaf that it has made two steps.
@@ -137,6 +163,14 @@ fn read_inputs(rt: &impl Abort, alloc: Global, session: &mut Session) -> Result<
 fn sessions_are_read(rt: HostRuntime) -> Result<(), NoMemory> {
     let mut session = open(&rt, rt.alloc(), TREE, WORLD);
     let done = read(&rt, rt.alloc(), &mut session);
+    drop(session);
+    done
+}
+
+#[test]
+fn keys_are_found_where_they_are_named(rt: HostRuntime) -> Result<(), NoMemory> {
+    let mut session = open(&rt, rt.alloc(), TREE, WORLD);
+    let done = read_keys(&rt, rt.alloc(), &mut session);
     drop(session);
     done
 }
