@@ -5,11 +5,13 @@ use Rattle.std.specs.Cmp.Lexicographic.{slice_cmp, texts_ties}
 use Rattle.std.specs.List.{AllByRecursion, IsDistinct}
 use Rattle.std.specs.List.Sorted.{IsStrictlySortedBy}
 use Rattle.std.specs.Ordering.{MatchOrdering, eq_by_cmp, is_eq, is_lt, nat_cmp, ordering_reverse}
-use Rattle.std.proofs.lemmas.Bool.{le-leb, le-ltb, lt-leb, lt-ltb, or_left}
+use Rattle.std.proofs.lemmas.Bool.{both_ways, le-leb, le-ltb, lt-leb, lt-ltb, or_left}
 use Rattle.std.proofs.lemmas.Cmp.{nat_list_cmp_total, ranked, same_from_slice_cmp}
-use Rattle.std.proofs.lemmas.List.{drop_all, drop_more, take-append-drop, take_all, take_more}
+use Rattle.std.proofs.lemmas.List.{drop_all, drop_more, take_all, take_more}
+use Rattle.std.proofs.lemmas.List.Folds.{list_any_at}
 use Rattle.std.proofs.lemmas.Map.Keys.{IsDistinct-from_sorted}
 use Rattle.spec_serve.specs.Rows.{is_before, with_name, with_names}
+use Rattle.spec_tree.specs.Names.{is_among}
 
 -- ---- One order
 
@@ -63,16 +65,22 @@ module _ (name other : List ℕ) (names : List (List ℕ)) (i : ℕ) (within : i
   rest : drop i names ≡ other ∷ drop (i + 1) names
   rest = drop_more names i other within ∙ ap (λ (x : List ℕ). x ∷ drop (i + 1) names) (sym is)
 
-  pub place_there : by_bytes other name ≡ Equal → with_name name names ≡ names
-  place_there e =
-      so_far ∙ ap (λ (xs : List (List ℕ)). take i names ++ with_name name xs) rest
-      ∙ ap (λ (xs : List (List ℕ)). take i names ++ xs) (there name other (drop (i + 1) names) (back other name Equal e) ∙ sym rest)
-      ∙ take-append-drop i names
+  -- a new name is not there
+  not_there : is_among name names ≡ false → by_bytes other name ≡ Equal → ⊥
+  not_there new e =
+      both_ways (is_among name names) new
+      (list_any_at (bytes_eq name) names i other within (ap (bytes_eq name) (sym is) ∙ texts_ties name other ∙ ap is_eq (back other name Equal e)))
 
-  pub place_in_front : by_bytes other name ≡ Greater → with_name name names ≡ insert names i name
+  place_in_front : by_bytes other name ≡ Greater → with_name name names ≡ insert names i name
   place_in_front e =
       so_far ∙ ap (λ (xs : List (List ℕ)). take i names ++ with_name name xs) rest
       ∙ ap (λ (xs : List (List ℕ)). take i names ++ xs) (in_front name other (drop (i + 1) names) (back other name Greater e) ∙ ap (λ (xs : List (List ℕ)). name ∷ xs) (sym rest))
+
+  -- it belongs in front of the first one that is not before it
+  pub place_here : (o : Ordering) → by_bytes other name ≡ o → is_among name names ≡ false → (o ≡ Less → ⊥) → with_name name names ≡ insert names i name
+  place_here Less e new later = absurd (later refl)
+  place_here Equal e new later = absurd (not_there new e)
+  place_here Greater e new later = place_in_front e
 
   pub place_behind : by_bytes other name ≡ Less → with_name name names ≡ take (i + 1) names ++ with_name name (drop (i + 1) names)
   place_behind e =
@@ -104,7 +112,7 @@ all_less : (name other : List ℕ) (names : List (List ℕ)) → by_bytes name o
 all_less name other [] e all = tt
 all_less name other (y ∷ names) e all = (nat_list_cmp_total.trans name other y e all.0, all_less name other names e all.1)
 
-sorted_with : (name : List ℕ) (names : List (List ℕ)) → IsStrictlySortedBy by_bytes names → IsStrictlySortedBy by_bytes (with_name name names)
+pub sorted_with : (name : List ℕ) (names : List (List ℕ)) → IsStrictlySortedBy by_bytes names → IsStrictlySortedBy by_bytes (with_name name names)
 unfolding IsStrictlySortedBy
 sorted_with name [] all = (tt, tt)
 sorted_with name (other ∷ names) all = by (by_bytes name other) refl (sorted_with name names all.1)
@@ -114,6 +122,24 @@ sorted_with name (other ∷ names) all = by (by_bytes name other) refl (sorted_w
     by Equal e more = subst (IsStrictlySortedBy by_bytes) (sym (there name other names e)) all
     by Greater e more =
         subst (IsStrictlySortedBy by_bytes) (sym (behind name other names e)) (all_with (λ y. by_bytes other y ≡ Less) name names (back name other Greater e) all.0, more)
+
+none_less : (name : List ℕ) (names : List (List ℕ)) → AllByRecursion (λ y. by_bytes name y ≡ Less) names → is_among name names ≡ false
+none_less name [] all = refl
+none_less name (y ∷ names) all = ap (λ (b : Bool). b || is_among name names) (texts_ties name y ∙ ap is_eq all.0) ∙ none_less name names all.1
+
+-- a name that is there is in its place
+pub known : (name : List ℕ) (names : List (List ℕ)) → IsStrictlySortedBy by_bytes names → is_among name names ≡ true → with_name name names ≡ names
+unfolding IsStrictlySortedBy
+known name [] all among = absurd (both_ways false refl among)
+known name (other ∷ names) all among = by (by_bytes name other) refl (known name names all.1)
+  where
+    apart : (o : Ordering) → by_bytes name other ≡ o → is_eq o ≡ false → is_among name (other ∷ names) ≡ is_among name names
+    apart o e differs = ap (λ (b : Bool). b || is_among name names) (texts_ties name other ∙ ap is_eq e ∙ differs)
+
+    by : (o : Ordering) → by_bytes name other ≡ o → (is_among name names ≡ true → with_name name names ≡ names) → with_name name (other ∷ names) ≡ other ∷ names
+    by Less e more = absurd (both_ways (is_among name names) (none_less name names (all_less name other names e all.0)) (sym (apart Less e refl) ∙ among))
+    by Equal e more = there name other names e
+    by Greater e more = behind name other names e ∙ ap (λ (xs : List (List ℕ)). other ∷ xs) (more (sym (apart Greater e refl) ∙ among))
 
 sorted_with_all : (names others : List (List ℕ)) → IsStrictlySortedBy by_bytes others → IsStrictlySortedBy by_bytes (with_names names others)
 sorted_with_all [] others all = all
@@ -128,7 +154,7 @@ unfolding IsDistinct
 by_ties [] all = tt
 by_ties (x ∷ xs) all = (tied x xs all.0, by_ties xs all.1)
 
-none_sorted : IsStrictlySortedBy by_bytes []
+pub none_sorted : IsStrictlySortedBy by_bytes []
 unfolding IsStrictlySortedBy
 none_sorted = tt
 

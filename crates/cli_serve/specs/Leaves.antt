@@ -1,5 +1,8 @@
 -- What nodes and elements say of the IDs of leaves: a table to which more is added.
-use Rattle.std.specs.Prelude.{◌≡◌, ◌≤◌, ℕ, nat_le, Bool, true, false, if◌then◌else◌, List, [], ◌∷◌, ◌++◌, map, insert, length, bytes_eq, Option, Some, None, Result, Ok, Err}
+use Rattle.std.specs.Prelude.{◌≡◌, ◌≤◌, ℕ, ◌-◌, nat_le, Bool, true, false, if◌then◌else◌, List, [], ◌∷◌, ◌++◌, map, insert, drop, length, bytes_eq, Option, Some, None}
+use Rattle.std.specs.Cmp.Lexicographic.{slice_cmp}
+use Rattle.std.specs.List.Sorted.{IsStrictlySortedBy}
+use Rattle.std.specs.Ordering.{nat_cmp}
 use Rattle.spec_run.specs.Joins.{is_leaf}
 use Rattle.spec_serve.specs.Rows.{Start, is_condition, model_of, node_id, row_for, with_name}
 use Rattle.spec_tree.specs.Limits.{most_made_ports}
@@ -15,10 +18,17 @@ pub record Seen : Type 0 where
   pub condition : Bool
   pub ports : List (List ℕ)
 
--- a name stands at this place among others, which stand in their order; or it belongs there
-abbrev pub IsPlace : Result ℕ ℕ → List ℕ → List (List ℕ) → Type 0
-IsPlace (Ok at) name names = with_name name names ≡ names
-IsPlace (Err at) name names = (at ≤ length names) × (with_name name names ≡ insert names at name)
+-- names stand in their order, by their bytes, each once
+abbrev pub AreInOrder : List (List ℕ) → Type 0
+AreInOrder = IsStrictlySortedBy (slice_cmp nat_cmp)
+
+-- a name belongs at this place among others, which stand in their order
+abbrev pub IsPlace : ℕ → List ℕ → List (List ℕ) → Type 0
+IsPlace at name names = (at ≤ length names) × (with_name name names ≡ insert names at name)
+
+-- the last bytes of a text
+abbrev pub end_of : List ℕ → List ℕ
+end_of text = drop (length text - 16) text
 
 -- leaves by their IDs, in the order in which they stand first
 abbrev pub Leaves : Type 0

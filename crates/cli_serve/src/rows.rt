@@ -1,17 +1,18 @@
 //! The rows of a tree that is served without a world.
-ghost use Rattle.std.specs.Prelude.{◌≡◌, ◌≤◌, [], ◌∷◌, ◌++◌, IfOk, OnOk, bytes_eq, filter, length, map, slice_get};
+ghost use Rattle.std.specs.Prelude.{◌≡◌, ◌≤◌, false, [], ◌∷◌, ◌++◌, IfOk, OnOk, bytes_eq, filter, length, map, slice_get};
 ghost use Rattle.std.specs.Option.{option_copied, option_to_list};
-ghost use Rattle.cli_serve.specs.Leaves.{after_start, after_starts, changed_at, no_condition, own_node, own_start, IsPlace, row_of_leaf, with_id, with_leaf, with_node, with_nodes, with_ports};
+ghost use Rattle.cli_serve.specs.Leaves.{after_start, after_starts, changed_at, end_of, no_condition, own_node, own_start, AreInOrder, IsPlace, row_of_leaf, with_id, with_leaf, with_node, with_nodes, with_ports};
 ghost use Rattle.cli_serve.specs.Places.{FindModels, has_model, modelled_id, with_model, with_place};
 ghost use Rattle.cli_serve.specs.Rows.{IsTreeOf, RowGives, RowsGive, SortGives, ToldWorld, WorldGives};
 ghost use Rattle.spec_serve.specs.Rows.{model_elements, model_of, node_id, ports_of, ports_towards, row_for, starts_in, starts_of, told_row, told_sort, told_world, too_many, tree_starts, with_name, with_names};
 ghost use Rattle.spec_tree.specs.Limits.{most_file_bytes};
+ghost use Rattle.spec_tree.specs.Names.{is_among};
 ghost use Rattle.spec_tree.specs.Trees.{IsValid, names_of, nodes_of};
 ghost use Rattle.spec_tree_file.specs.Models.{attributes_of, children_of, is_model, name_of};
 ghost use Rattle.spec_world.specs.Runnable.{IsRunnableWorld};
 
 use base_tables::{MOST_MADE_PORTS, MOST_MADE_ROWS};
-use base_texts::{Items, Name, NoMemory, Stop};
+use base_texts::{Items, Name, NoMemory, Stop, copy_names};
 use cli_refusals::Refusal;
 use indexmap::IndexMap;
 use spec_program::TreeFault;
@@ -25,6 +26,9 @@ use std::marker::Model;
 use tree_elements::read_elements;
 use tree_manifest::{attribute, can_be_written};
 
+/// How many of the last bytes of two names are compared before all.
+const MOST_END: usize = 16;
+
 /// What the nodes of a leaf's ID say of it, which counts where it has no node model.
 #[derive(Drop)]
 struct Leaf {
@@ -36,11 +40,13 @@ struct Leaf {
 }
 
 impl Model for Leaf {
-    ghost use Rattle.cli_serve.specs.Leaves.{Seen};
+    ghost use Rattle.cli_serve.specs.Leaves.{AreInOrder, Seen};
 
     ghost Value = { Seen };
 
     ghost view = { λ leaf. record { condition = leaf.is_condition; ports = leaf.ports.items } };
+
+    ghost invariant = { λ leaf. AreInOrder leaf.ports.items };
 }
 
 /// The leaves of a tree by their IDs, in the order in which they stand.
@@ -49,25 +55,52 @@ type Leaves = IndexMap<Name, Leaf>;
 /// The places of the models of a file by their IDs.
 type Places = IndexMap<Name, usize>;
 
-/// The place of a port among others, which stand in their order; the error is the place where it belongs.
-fn place_of(port: &Name, ports: &[Name]) -> Result<usize, usize>
+/// The last bytes of a text.
+fn end_of(text: &[u8]) -> &[u8]
+    ensures { result.now ≡ end_of text.now }
+{
+    &text[text.len().saturating_sub(MOST_END)..]
+}
+
+/// Whether two names are equal. Their ends are compared first, since long names that differ often begin alike.
+fn are_equal(name: &[u8], other: &[u8]) -> bool
+    ensures { result ≡ bytes_eq name.now other.now }
+{
+    end_of(name) == end_of(other) && name == other
+}
+
+/// Whether a port is among others.
+fn is_among(port: &Name, ports: &[Name]) -> bool
+    ensures { result ≡ is_among port.now ports.now }
+{
+    ports
+        .iter()
+        .any(|other| are_equal(port.list(), other.list()))
+}
+
+/// The place of a new port among others, which stand in their order.
+fn place_of(port: &Name, ports: &[Name]) -> usize
+    requires { is_among port.now ports.now ≡ false }
     ensures { IsPlace result port.now ports.now }
 {
     for (at, other) in ports.iter().enumerate() {
         match other.cmp(port) {
             Ordering::Less => {}
-            Ordering::Equal => return Ok(at),
-            Ordering::Greater => return Err(at),
+            _ => return at,
         }
     }
-    Err(ports.len())
+    ports.len()
 }
 
-/// Adds a port to others, which stay in their order. The error is want of memory.
+/// Adds a port to others, which stay in their order. The error is want of memory. Most ports are there from the node
+/// before, and are not put in order again.
 fn add_port(alloc: Global, port: &Name, ports: &mut Vec<Name>) -> Result<(), NoMemory>
-    ensures { OnOk result (ports.new.items ≡ with_name port.now ports.old.items) }
+    requires { AreInOrder ports.old.items }
+    ensures with { OnOk result (ports.new.items ≡ with_name port.now ports.old.items) }
+    ensures order { AreInOrder ports.new.items }
 {
-    if let Err(at) = place_of(port, ports.as_slice()) {
+    if !is_among(port, ports.as_slice()) {
+        let at = place_of(port, ports.as_slice());
         ports.insert(at, port.copy(alloc)?)?;
     }
     Ok(())
@@ -86,14 +119,14 @@ fn add_ports(alloc: Global, ports: &[Port], leaf: &mut Leaf) -> Result<(), NoMem
     Ok(())
 }
 
-/// Adds a leaf of this ID, if there is none yet.
-fn add_id(alloc: Global, id: &Name, leaves: &mut Leaves) -> Result<(), NoMemory>
+/// Adds a leaf of this ID with room for so many ports, if there is none yet.
+fn add_id(alloc: Global, id: &Name, room: usize, leaves: &mut Leaves) -> Result<(), NoMemory>
     ensures { OnOk result (leaves.new.entries ≡ with_id id.now leaves.old.entries) }
 {
     if !leaves.contains_key(id) {
         let leaf = Leaf {
             is_condition: true,
-            ports: Vec::new(alloc),
+            ports: Vec::with_capacity(alloc, room)?,
         };
         leaves.insert(id.copy(alloc)?, leaf)?;
     }
@@ -111,10 +144,10 @@ fn add_leaf(
     ensures { OnOk result (leaves.new.entries ≡
         with_leaf (has_model models.now.entries) id.now (names_of ports.now) leaves.old.entries) }
 {
-    add_id(alloc, id, leaves)?;
     if models.contains_key(id) {
-        return Ok(());
+        return add_id(alloc, id, 0, leaves);
     }
+    add_id(alloc, id, ports.len(), leaves)?;
     match leaves.get_mut(id) {
         Some(leaf) => add_ports(alloc, ports, leaf),
         None => Ok(()),
@@ -312,8 +345,8 @@ fn port_name<'a>(port: &'a Element, direction: &[u8]) -> Option<&'a Name>
 }
 
 /// The names of the ports of a model that have this direction or both, in their order.
-fn ports_of(alloc: Global, model: &Element, direction: &[u8]) -> Result<Vec<Name>, NoMemory>
-    ensures { IfOk result (λ ports. ports.items ≡ ports_of direction.now model.now) }
+fn ports_of(alloc: Global, model: &Element, direction: &[u8]) -> Result<Items<Name>, NoMemory>
+    ensures { IfOk result (λ ports. ports ≡ ports_of direction.now model.now) }
 {
     let mut ports = Vec::new(alloc);
     for port in model.children.list() {
@@ -321,18 +354,7 @@ fn ports_of(alloc: Global, model: &Element, direction: &[u8]) -> Result<Vec<Name
             ports.push(name.copy(alloc)?)?;
         }
     }
-    Ok(ports)
-}
-
-/// Copies of names.
-fn copies(alloc: Global, names: &[Name]) -> Result<Vec<Name>, NoMemory>
-    ensures { IfOk result (λ copies. copies.items ≡ names.now) }
-{
-    let mut copies = Vec::new(alloc);
-    for name in names {
-        copies.push(name.copy(alloc)?)?;
-    }
-    Ok(copies)
+    Ok(Items::of(ports))
 }
 
 /// That something is beyond the limits of a world.
@@ -346,18 +368,16 @@ fn too_many() -> Refusal
 }
 
 /// How the leaves of a row are told: as an action with these outputs, and as a condition without outputs.
-fn told_sort(is_condition: bool, outputs: Vec<Name>) -> Result<RowSort, Refusal>
-    ensures { SortGives result (told_sort is_condition outputs.items) }
+fn told_sort(is_condition: bool, outputs: Items<Name>) -> Result<RowSort, Refusal>
+    ensures { SortGives result (told_sort is_condition outputs) }
 {
     if is_condition {
         return Ok(RowSort::Sensed);
     }
-    if outputs.len() > MOST_MADE_PORTS {
+    if outputs.list().len() > MOST_MADE_PORTS {
         return Err(too_many());
     }
-    Ok(RowSort::Told {
-        outs: Items::of(outputs),
-    })
+    Ok(RowSort::Told { outs: outputs })
 }
 
 /// The row of an ID, whose leaves are told what they answer, with these input ports, and as an action with these outputs.
@@ -365,18 +385,18 @@ fn told_row(
     alloc: Global,
     id: &Name,
     is_condition: bool,
-    inputs: Vec<Name>,
-    outputs: Vec<Name>,
+    inputs: Items<Name>,
+    outputs: Items<Name>,
 ) -> Result<Row, Refusal>
-    ensures { RowGives result (told_row id.now is_condition inputs.items outputs.items) }
+    ensures { RowGives result (told_row id.now is_condition inputs outputs) }
 {
-    if inputs.len() > MOST_MADE_PORTS {
+    if inputs.list().len() > MOST_MADE_PORTS {
         return Err(too_many());
     }
     let sort = told_sort(is_condition, outputs)?;
     Ok(Row {
         id: id.copy(alloc)?,
-        ports: Items::of(inputs),
+        ports: inputs,
         sort,
         needs: Items::of(Vec::new(alloc)),
         sets: Items::of(Vec::new(alloc)),
@@ -403,8 +423,8 @@ fn row_of(
             told_row(alloc, id, is(model, b"Condition"), inputs, outputs)
         }
         None => {
-            let inputs = copies(alloc, leaf.ports.as_slice())?;
-            let outputs = copies(alloc, leaf.ports.as_slice())?;
+            let inputs = copy_names(alloc, leaf.ports.as_slice())?;
+            let outputs = copy_names(alloc, leaf.ports.as_slice())?;
             told_row(alloc, id, leaf.is_condition, inputs, outputs)
         }
     }

@@ -1,5 +1,5 @@
 -- The keys of a tree's nodes, resolved in the scope of a number.
-use Rattle.std.specs.Prelude.{◌≡◌, ℕ, List, [], unwrap_or, true, Option, Some, None}
+use Rattle.std.specs.Prelude.{◌≡◌, ℕ, ◌-◌, List, [], drop, length, unwrap_or, true, Option, Some, None}
 use Rattle.std.specs.List.{All, flat_map}
 use Rattle.spec_script.specs.declared.syntax.Script.{Script}
 use Rattle.spec_script.specs.Scripts.{stmt_names}
@@ -14,6 +14,10 @@ use Rattle.spec_run.specs.Sites.{View}
 -- what a node in the scope of a number sees
 abbrev pub view_in : Tree → World → ℕ → View
 view_in tree world number = record { rows = world.rows; facts = world.facts; slots = slots tree; scope = scope_of tree number }
+
+-- the last bytes of a text
+abbrev pub end_of : List ℕ → List ℕ
+end_of text = drop (length text - 16) text
 
 -- the slot of a key in the scope of a number, and 0 where the tree does not name it there
 abbrev pub named_slot : Tree → ℕ → List ℕ → ℕ

@@ -62,7 +62,7 @@ pub(crate) fn name_sources<O: Slotting>(
         map (λ name. source_in (view_in setting.now.tree.now setting.now.world.now scope) ports.now name) names.now) }
     ensures slots { IfOk result (λ sources. All (IsSourceOf (length (cells setting.now.tree.now))) sources.items) }
 {
-    let mut sources = Vec::new(setting.alloc);
+    let mut sources = Vec::with_capacity(setting.alloc, names.len())?;
     for name in names {
         sources.push(source_at(ports, name.list(), setting, scope)?)?;
     }

@@ -1,11 +1,11 @@
-ghost use Rattle.std.specs.Prelude.{◌≡◌, length, map, IfOk};
+ghost use Rattle.std.specs.Prelude.{◌≡◌, bytes_eq, length, map, IfOk};
 ghost use Rattle.std.specs.Option.{option_copied};
 ghost use Rattle.spec_tree.specs.Boards.{port_of, slots as cells};
 ghost use Rattle.base_tables.specs.SlotTables.{slot_table};
 ghost use Rattle.spec_tree.specs.Trees.{GuardsFit, ScriptFits};
 ghost use Rattle.run_arena.specs.Booked.{IsOver};
 ghost use Rattle.run_arena.specs.Nodes.{AreCompiled, IsCompiled, has_after, has_before, no_guards};
-ghost use Rattle.run_arena.specs.Resolving.{AreNamed, GuardsAreNamed, named_slot, names_if_there, port_keys, view_in};
+ghost use Rattle.run_arena.specs.Resolving.{AreNamed, GuardsAreNamed, end_of, named_slot, names_if_there, port_keys, view_in};
 ghost use Rattle.run_arena.specs.Sources.{IsSourceOf, source_at as source_in};
 
 use crate::book::{Book, Slotting};
@@ -19,6 +19,9 @@ use spec_tree::{Guards, Port, PortValue, Tree};
 use std::alloc::Global;
 use std::cell::RefCell;
 use tree_board::{Slots, slot};
+
+/// How many of the last bytes of two names are compared before all.
+const MOST_END: usize = 16;
 
 /// What stays the same while a tree is laid out: where memory comes from, the tree with its slots, and
 /// a world whose rows are ready.
@@ -132,12 +135,26 @@ pub(crate) fn is_after(guards: &Guards) -> bool
     guards.on_success.is_some() || guards.on_failure.is_some() || guards.post.is_some()
 }
 
+/// The last bytes of a text.
+fn end_of(text: &[u8]) -> &[u8]
+    ensures { result.now ≡ end_of text.now }
+{
+    &text[text.len().saturating_sub(MOST_END)..]
+}
+
+/// Whether two names are equal. Their ends are compared first, since long names that differ often begin alike.
+fn are_equal(name: &[u8], other: &[u8]) -> bool
+    ensures { result ≡ bytes_eq name.now other.now }
+{
+    end_of(name) == end_of(other) && name == other
+}
+
 /// The port of this name; none where it is not given.
 fn port_named<'a>(ports: &'a [Port], name: &[u8]) -> Option<&'a Port>
     ensures { option_copied result ≡ port_of ports.now name.now }
 {
     for port in ports {
-        if port.name.list() == name {
+        if are_equal(port.name.list(), name) {
             return Some(port);
         }
     }

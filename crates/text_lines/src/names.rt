@@ -8,7 +8,7 @@ ghost use Rattle.spec_output.specs.NoNames.{no_names};
 
 use crate::label::{Label, Labels, labels_to};
 use crate::put::{put_bytes, put_number};
-use base_texts::{Items, Name, NoMemory};
+use base_texts::{Items, Name, NoMemory, copy_names};
 use spec_tree::{Cell, Kind, Term, Tree};
 use spec_world::{Row, World};
 use std::alloc::Global;
@@ -97,17 +97,6 @@ impl Names {
     }
 }
 
-/// Copies of these names, or want of memory.
-fn copies(alloc: Global, names: &[Name]) -> Result<Vec<Name>, NoMemory>
-    ensures { IfOk result (λ copies. copies.items ≡ names.now) }
-{
-    let mut copies = Vec::new(alloc);
-    for name in names {
-        copies.push(name.copy(alloc)?)?;
-    }
-    Ok(copies)
-}
-
 /// The names of the facts by their number, or want of memory.
 fn names_of_facts(alloc: Global, world: &World) -> Result<Vec<Name>, NoMemory>
     ensures { IfOk result (λ names. names.items ≡ fact_names world.now) }
@@ -144,7 +133,7 @@ fn inputs_of_node(alloc: Global, node: &Term, rows: &[Row]) -> Result<Items<Name
 {
     if let Kind::Leaf = node.kind {
         if let Some(row) = find_row(rows, &node.id) {
-            return Ok(Items::of(copies(alloc, row.ports.list())?));
+            return copy_names(alloc, row.ports.list());
         }
     }
     Ok(Items::of(Vec::new(alloc)))

@@ -71,7 +71,7 @@ fn written(
 ) -> Result<Vec<Port>, Stop<BuildFault>>
     ensures { GivesList result (with_written uid with_code (rules_seen rules.entry) [] attributes.now) }
 {
-    let mut ports = Vec::new(alloc);
+    let mut ports = Vec::with_capacity(alloc, attributes.len())?;
     for attribute in attributes {
         ports = with_attribute(alloc, uid, with_code, rules, ports, attribute)?;
     }

@@ -11,7 +11,7 @@ returns-in-Some c =
     let more = with_ports (names_of c.args.ports.now) in
     on_ok c.add_ports.result (λ is.
     (c.get_mut.follows.holds c.add_ports.new.leaf).0
-    ∙ one_changed id more c.add_id.new.leaves.entries c.in-Some.leaf.now c.add_ports.new.leaf c.in-Some.ensures.unique (sym c.in-Some.ensures.value) is
+    ∙ one_changed id more c.add_id-2.new.leaves.entries c.in-Some.leaf.now c.add_ports.new.leaf c.in-Some.ensures.unique (sym c.in-Some.ensures.value) is
     ∙ ap (λ (leaves : Leaves). changed_at id more leaves) c.in_ok-add_id.ensures
     ∙ ap (λ b. if b then added else changed_at id more added) (sym (sym c.contains_key.ensures ∙ c.if-contains_key.false))) c.add_ports.ensures
 
@@ -21,6 +21,6 @@ returns-in-None c =
     let added = with_id id c.args.leaves.now.entries in
     let more = with_ports (names_of c.args.ports.now) in
     ap (λ m. m.entries) c.get_mut.follows.holds-at-none
-    ∙ none_changed id more c.add_id.new.leaves.entries (sym c.in-None.ensures.value)
+    ∙ none_changed id more c.add_id-2.new.leaves.entries (sym c.in-None.ensures.value)
     ∙ ap (λ (leaves : Leaves). changed_at id more leaves) c.in_ok-add_id.ensures
     ∙ ap (λ b. if b then added else changed_at id more added) (sym (sym c.contains_key.ensures ∙ c.if-contains_key.false))
